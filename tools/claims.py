@@ -1,20 +1,20 @@
 #!/usr/bin/env python3
-"""Writes docs/CLAIMS.md from tools/claims.txt: crate by crate what is proved, with the clause that carries it, what is only
-tested, and what is neither.
+"""Writes docs/CLAIMS.md from tools/claims.txt: for each crate what is proved, with the clause that states it, what is only tested,
+and what is neither.
 
     tools/claims.py            writes the page
     tools/claims.py --check    writes nothing, and fails where the page isn't as it would be written
 
-It reads the contracts of the public functions, and refuses a claim whose clause doesn't stand at the function that it names,
-and a public function with a contract of which nothing is claimed. In tools/claims.txt
+It reads the contracts of the public functions. It refuses a claim whose clause the named function doesn't have, and a public function
+with a contract that no claim covers. In tools/claims.txt
 
-    crate NAME: TITLE          begins a crate; the lines behind it are its text, up to the first call
-    call NAME, NAME ..         functions, as Type::function or function; * stands for any letters
-    for TRAIT                  the types that have this trait are named beside the call
-      CLAUSE, CLAUSE: TEXT     what these clauses of each of these functions say; `contract` is a clause without a name
+    crate NAME: TITLE          begins a crate; the lines up to the first call are its text
+    call NAME, NAME ..         functions, as Type::function or function; * matches any letters
+    for TRAIT                  the page names the types with this trait beside the call
+      CLAUSE, CLAUSE: TEXT     what these clauses of each function say; `contract` is a clause without a name
       only tested: TEXT        what is only tested
       neither: TEXT            what is neither proved nor tested
-    unproved: TEXT             a line behind the crate's table
+    unproved: TEXT             a line after the crate's table
 """
 
 import argparse
@@ -29,7 +29,7 @@ PAGE = Path("docs/CLAIMS.md")
 
 
 class Row:
-    """What is claimed of some functions."""
+    """The claims for some functions."""
 
     def __init__(self, calls):
         self.calls = calls
@@ -40,14 +40,14 @@ class Row:
 
 
 class Crate:
-    """What is claimed of a crate."""
+    """The claims for a crate."""
 
     def __init__(self, name, title):
         self.name = name
         self.title = title
         self.text = []
         self.rows = []
-        self.behind = []
+        self.unproved = []
 
 
 def read_source(text):
@@ -65,7 +65,7 @@ def read_source(text):
         elif word == "for":
             crates[-1].rows[-1].trait = rest
         elif word == "unproved:":
-            crates[-1].behind.append(rest)
+            crates[-1].unproved.append(rest)
         elif line.startswith("  "):
             add_claim(crates[-1].rows[-1], line.strip())
         elif not crates[-1].rows:
@@ -87,7 +87,7 @@ def add_claim(row, line):
 
 
 def meant_by(call, known):
-    """The functions that a row's name stands for."""
+    """The functions that a row's name matches."""
     return [function for function in known if fnmatch.fnmatchcase(full_name(function), call)]
 
 
@@ -96,7 +96,7 @@ def full_name(function):
 
 
 def complaints_of(crate, known):
-    """What is wrong with the claims of a crate: each names a clause that is there, and each contract is claimed."""
+    """The faults of a crate's claims: each claim names clauses that exist, and each contract is claimed."""
     found, claimed = [], set()
     for row in crate.rows:
         for call in row.calls:
@@ -132,7 +132,7 @@ def page_of(head, crates):
         lines += [f"## `{crate.name}`: {crate.title}", "", *crate.text]
         if crate.rows:
             lines += [*table_of(crate), ""]
-        for text in crate.behind:
+        for text in crate.unproved:
             lines += [text, ""]
     return "\n".join(lines).rstrip("\n") + "\n"
 

@@ -1,22 +1,22 @@
 #!/usr/bin/env python3
-"""Compares what is answered by trees with what is answered by recognition, on texts with known answers, rows and random texts.
+"""Compares the results of the tree parsers with those of the recognizer, on texts with known results, rows and random texts.
 
     tools/compare_answers.py [--stage N] [--count N] [--seed N] [--every] [--conformance FILE] [--oracle FOLDER] [--bin PROGRAM]
 
-The program `tree_answers` is asked (its src/main.rt tells the questions): as kinds of the program, for the print of each text, whether
-it has one, and whether it has the form of its print and of the text before it. The answers, and the bytes at which a text is refused,
-have to be the same. The texts are
+The program `tree_answers` (see its src/main.rt) parses each text as some of the program's kinds, both ways: its print, whether it has one,
+and whether it has the form of its print and of the text before it. The results, and the bytes at which a text is refused, must be
+equal. The texts are
 
-- those of the conformance cases, in the file beside the repository, each as the kinds that its cases name;
-- both lines of each row of `check_rows`, so that texts which are to be compared follow each other;
-- random ones, as many as --count says, by the generator of the other reading beside the repository: derivations of each kind that is
-  built at the stage, each followed by itself with a few tokens changed, both as that kind.
+- those of the conformance cases, each as the kinds that its cases name;
+- both lines of each row of `check_rows`: texts to be compared are adjacent;
+- --count random ones, by the generator of the oracle: derivations of each kind of the stage, each followed by the same with a few tokens
+  changed, both as that kind.
 
-Each is also asked as a few other kinds, which are drawn by --seed, and with --every as each kind. A text takes some 6 ms of a processor
-a kind in a trial build, which looks for faults of memory as well.
+Each is also parsed as a few other kinds, drawn by --seed; with --every as each kind. In a trial build, which checks memory as well, a
+text takes some 6 ms of a processor for each kind.
 
-What isn't beside the repository is left out, and named. The program is run by a trial build, in a copy of the sources, or is
-PROGRAM. The status is 0 where nothing differs, 1 where something does, and 2 where the program didn't end well.
+The conformance cases and the oracle are beside the repository; where they are missing, a line says so. The program is a trial build of a
+copy of the sources, or PROGRAM. The status is 0 if nothing differs, 1 if something does, and 2 if the program failed.
 """
 import argparse
 import importlib
@@ -38,31 +38,31 @@ ROWS = TOP / "crates/check_rows/stdin"
 CONFORMANCE = TOP.parent / "shared/conformance/shared.jsonl"
 ORACLE = TOP.parent / "shared/oracle"
 CRATE = "tree_answers"
-# How much of the grammar is built, where no stage is named.
+# The stage of the grammar, if the call names none.
 STAGE = 15
 # A trial takes at most a MiB of input.
 CHUNK = 1_000_000
-# The words of all kinds, and as how many others each text is asked.
+# The words of all kinds, and the number of other kinds as which each text is parsed.
 WORDS = [word for word, _, _ in KINDS]
 OTHERS = 2
-# How long a run may take, its build not counted: ./test has it wait for others.
+# The limit of a run, without its build: in ./test it waits for others.
 SECONDS = 9000
-# No random text is longer.
+# The length of the longest random text.
 LONGEST = 4000
-# How many of the answers that differ are shown, of three lines each.
+# How many differences are shown, three lines each.
 SHOWN = 20
 ESCAPES = {"n": "\n", "t": "\t", "s": " ", "\\": "\\", "e": ""}
 COUNT = re.compile(r"(\d+) ([a-z ]+)")
 
 
 def live_cases(path, stage):
-    """The cases that have answers at the stage, and are text."""
+    """The cases that hold at the stage, and are text."""
     cases = map(json.loads, path.read_text(encoding="utf-8").splitlines())
     return [case for case in cases if "stdin" in case and case["stage"] <= stage and (case["until"] is None or stage <= case["until"])]
 
 
 def conformance_texts(path, stage):
-    """What the cases that have answers at the stage give to the program; each once, with the kinds that are named."""
+    """The inputs of the cases that hold at the stage; each once, with the kinds that the cases name."""
     texts = {}
     for case in live_cases(path, stage):
         texts.setdefault(case["stdin"], []).append(kind_of(case["args"]))
@@ -70,12 +70,12 @@ def conformance_texts(path, stage):
 
 
 def kind_of(words):
-    """As which kind the program reads a text where it is called with these words: `list` reads a file."""
+    """The kind as which the program parses a text when called with these words: `list` parses a file."""
     return words[1] if len(words) == 2 and words[1] in WORDS else "file"
 
 
 def row_sections(path):
-    """The heading of each section of rows, and what the lines behind it stand for."""
+    """The heading of each section of rows, and the texts of the lines after it."""
     for section in path.read_text(encoding="utf-8").split("\n\n"):
         lines = list(itertools.dropwhile(lambda line: line.startswith("#"), section.splitlines()))
         if lines:
@@ -83,13 +83,13 @@ def row_sections(path):
 
 
 def row_texts(path):
-    """What the lines of the rows stand for; no kind is named."""
+    """The texts of the rows, without kinds."""
     for _, texts in row_sections(path):
         yield from ((text, []) for text in texts)
 
 
 def random_texts(folder, stage, count, seed):
-    """Derivations of each kind, each followed by itself changed, with that kind."""
+    """Derivations of each kind, each followed by the same changed, with that kind."""
     sys.path.insert(0, str(folder))
     gen, oracle, mkrender = (importlib.import_module(name) for name in ("gen", "oracle", "mkrender"))
     made = gen.G(seed, stage)
@@ -106,8 +106,7 @@ def random_texts(folder, stage, count, seed):
 
 
 def asked_as(texts, seed, every):
-    """The texts, each with the words of the kinds as which it is asked; none where that is each. Two that follow each other are asked as
-    the same others."""
+    """The texts, each with the words of the kinds as which it is parsed; none means all. Two adjacent texts have the same other kinds."""
     dice = random.Random(seed)
     for number, (text, words) in enumerate(texts):
         if number % 2 == 0:
@@ -116,7 +115,7 @@ def asked_as(texts, seed, every):
 
 
 def packed(lines, size=CHUNK):
-    """The lines, as many together as one run takes."""
+    """The lines in packs, each as large as one run takes."""
     pack, length = [], 0
     for line in lines:
         if pack and length + len(line) > size:
@@ -129,12 +128,12 @@ def packed(lines, size=CHUNK):
 
 
 def chunks(texts, size=CHUNK):
-    """The lines of the texts, as many together as one run takes."""
+    """The lines of the texts in packs, each as large as one run takes."""
     return packed((" ".join([text.encode().hex(), *words]) + "\n" for text, words in texts), size)
 
 
 def gathered(options):
-    """The texts, in the order of their sources, each with kinds as which it is asked."""
+    """The texts, in the order of their sources, each with the kinds as which it is parsed."""
     texts = []
     if there(options.conformance, "the conformance cases"):
         texts += conformance_texts(options.conformance, options.stage)
@@ -145,14 +144,14 @@ def gathered(options):
 
 
 def there(path, name):
-    """Whether the file is there; else it is named what is left out."""
+    """Whether the file exists; else a line says what is left out."""
     if not path.is_file():
         print(f"left out: {name}; {path} isn't there")
     return path.is_file()
 
 
 def asked(program, inputs):
-    """How this program ends on each input, and what it writes."""
+    """The status and the output of this program on each input."""
     runs = [subprocess.run([program], input=text, capture_output=True, text=True) for text in inputs]
     return [(run.returncode, run.stdout) for run in runs]
 
@@ -165,7 +164,7 @@ def tried(inputs, crate=CRATE):
         (room / "cases").mkdir()
         for number, text in enumerate(inputs):
             (room / f"cases/{number:04}").write_text(text)
-        # the steps are the interpreter's, which wouldn't get to the end; the compiled program answers
+        # the steps limit the interpreter, which wouldn't finish; the compiled program does
         words = ["--steps", "1000", "--cases", str(room / "cases")]
         wrote, said, _ = try_tests.called(words, room / "crates" / crate, SECONDS)
     statuses = re.findall(r"(?m)^case=\d+ run=ended status=(\d+) ", said)
@@ -176,7 +175,7 @@ def tried(inputs, crate=CRATE):
 
 
 def summed(answers):
-    """What was counted in all, and the lines of what differs."""
+    """The sums of the counts, and the lines of the differences."""
     counts, differences = Counter(), []
     for status, wrote in answers:
         *lines, last = wrote.splitlines() or [""]
@@ -193,7 +192,7 @@ def main():
     parser.add_argument("--stage", type=int, default=STAGE, help=f"how much of the grammar is built ({STAGE})")
     parser.add_argument("--count", type=int, default=3000, help="how many random texts (3000)")
     parser.add_argument("--seed", type=int, default=1)
-    parser.add_argument("--every", action="store_true", help="ask each text as each kind")
+    parser.add_argument("--every", action="store_true", help="parse each text as each kind")
     parser.add_argument("--conformance", type=Path, default=CONFORMANCE, help="the file of cases with answers")
     parser.add_argument("--oracle", type=Path, default=ORACLE, help="the folder of the other reading")
     parser.add_argument("--bin", help="the program, built")

@@ -1,34 +1,34 @@
 #!/usr/bin/env python3
-"""Asks what is read of streams and texts that are cut short or changed, and compares it with another reading of the grammar.
+"""Parses streams and texts that are cut short or changed, and compares the results with those of the oracle.
 
     tools/cuts.py streams [--bin PROGRAM]           by the program `cut_streams`, built by trial, or PROGRAM
-    tools/cuts.py texts [--bin PROGRAM] [--jobs N]  by `syn_canon` as `rt ci` or `./run --prove` has built it, or PROGRAM
-    --part I/N                                      of N parts of the texts the I-th
+    tools/cuts.py texts [--bin PROGRAM] [--jobs N]  by `syn_canon` as `rt ci` or `./run --prove` builds it, or PROGRAM
+    --part I/N                                      the I-th of N parts of the texts
     --invisible I/N                                 the same for the streams with an invisible group
 
-Both begin with the texts that rows of `check_rows` and the conformance cases say are read, each as its kind. Of the tokens of each,
-`streams` makes
+Both begin with the texts that rows of `check_rows` and the conformance cases accept, each as its kind. From the tokens of each, `streams`
+makes
 
-- cuts: the first tokens, none of them to all, where a group's two signs are one token, and what is open there is closed;
-- `@`: that mark as the last tree of one group;
+- cuts: the first N tokens for each N, where the two delimiters of a group count as one token, and open groups are closed;
+- `@`: that character as the last tree of one group;
 - delimiters: one group with another delimiter;
-- spacings: every mark Joint, every mark Alone, and one mark otherwise than it is;
-- invisible: some trees that stand beside each other in an invisible group, or an empty one.
+- spacings: every punctuation character Joint, every one Alone, and one changed;
+- invisible: an invisible group around some adjacent trees, or an empty one.
 
-The stream has to be read or refused, and to print, as the other reading says; and what holds of each stream has to hold of it (the
-program's src/main.rt tells what). `texts` gives to the program
+The stream must be accepted or refused, and print, as by the oracle, and it must pass the checks that src/main.rt of the program makes of
+each stream. `texts` gives to the program
 
-- prefixes: the first bytes of each text, none of them to all; it has to end as the other reading says;
-- failing reads and writes: each text in pieces of a few bytes, the first call failing, then the second, until a run meets no failure.
-  A run that meets one has to end with status 1 and `read failed` or `write failed`.
+- prefixes: the first N bytes of each text, for each N; it must end as the oracle says;
+- failing reads and writes: each text in pieces of a few bytes; the first call fails, then the second, until a run meets no failure.
+  A run that meets one must end with status 1 and `read failed` or `write failed`.
 
-One difference is known, and counted by itself: `< >` behind `impl`, which is printed where the other reading has none, or the reverse.
-And of streams with an invisible group some are read by one of the two alone (`read here`, `refused here`), since `parse2` finds by
-parsing at which groups it is refused. What both read has to print alike, but where a group splits a mark, and where an item is kept as
-its tokens (`other print`); and of many streams at most 2 in 100 may be so.
-The status is 0 where nothing else differs, 1 where something does, and 2 where nothing could be compared.
+One difference is known, and counted separately: `< >` after `impl`, which only one of the two prints. And some streams with an invisible
+group are accepted by one of the two alone (`read here`, `refused here`), since `parse2` finds by parsing at which groups it is refused.
+Streams that both accept must print alike, unless a group splits a punctuation mark or an item is verbatim (`other print`). Of many
+streams at most 2 in 100 may differ so.
+The status is 0 if nothing else differs, 1 if something does, and 2 if nothing could be compared.
 
-The other reading and the cases stand beside the repository. Without the cases rows alone are taken.
+The oracle and the cases are beside the repository. Without the cases, only rows are taken.
 """
 import argparse
 import os
@@ -51,28 +51,28 @@ CRATE = "cut_streams"
 PROGRAM = TOP / "crates/syn_canon/out/syn_canon"
 # How many differences are shown.
 SHOWN = 30
-# What isn't a difference.
+# Results that are no difference.
 AGREED = ("ok", "refused", "empty generics", "read here", "refused here", "other print")
-# What may be so of streams with an invisible group, of as many as these; of how many at most.
+# Results that streams with an invisible group may have; for at least so many streams, at most this share of them.
 APART, MANY, AT_MOST = ("read here", "refused here", "other print"), 1000, 0.02
-# Which types may be kept as tokens.
+# The types with a verbatim variant.
 KEPT = ("Item", "TraitItem", "ImplItem", "ForeignItem", "File")
 
 
 class Tally:
-    """How the answers of each sweep were, and what differs."""
+    """The results of each sweep, and the differences."""
 
     def __init__(self, sweeps):
         self.counts, self.differences = {sweep: Counter() for sweep in sweeps}, []
 
     def add(self, sweep, what, found):
-        """Counts an answer: one of those agreed, or what is wrong in words."""
+        """Counts a result: one of AGREED, or the difference in words."""
         self.counts[sweep][found if found in AGREED else "differ"] += 1
         if found not in AGREED:
             self.differences.append(f"{sweep}, {what}: {found}")
 
     def told(self):
-        """The differences, as far as they are shown, and a line of what was counted."""
+        """The first differences, and a line of the counts."""
         parts = [f"{sweep} {counts.total()}: " + ", ".join(f"{counts[how]} {how}" for how in (*AGREED, "differ") if counts[how]) for sweep, counts in self.counts.items() if counts]
         return [*self.differences[:SHOWN], "; ".join([*parts, f"{len(self.differences)} differ"])]
 
@@ -94,8 +94,7 @@ def inputs_of(options, part):
 
 
 def changed_streams(inputs, sweeps, reading):
-    """What these sweeps make of the streams of the inputs: the sweep, the kind and the words. An input that the other reading refuses is
-    an error."""
+    """The changed streams of the inputs: the sweep, the kind and the words. An input that the oracle refuses is an error."""
     for each in inputs:
         words = reading.words(each.text)
         if words is None or reading.print(each.kind, words) is None:
@@ -109,7 +108,7 @@ def line_of(kind, words):
 
 
 def answers_of(lines, program):
-    """The program's answer to each line. What it answers to the lines of its own input is compared with what is stored."""
+    """The program's result for each line. Its results for its own input must be those that are stored."""
     folder = TOP / "crates" / CRATE
     stored = [(folder / name).read_text(encoding="utf-8") for name in ("stdin", "stdout")]
     inputs = [stored[0], *packed([line + "\n" for line in lines])]
@@ -123,7 +122,7 @@ def answers_of(lines, program):
 
 
 def judged(answer, print_of_other):
-    """How the program's answer and the print of the other reading, or none, compare."""
+    """Compares the program's result with the oracle's print, or its refusal."""
     word, _, rest = answer.partition(" ")
     if word == "refused" and print_of_other is None:
         return "refused"
@@ -149,7 +148,7 @@ def judged_apart(answer, print_of_other, kind, words):
 
 
 def streams(options, reading):
-    """Compares the answers about changed streams."""
+    """Compares the results for changed streams."""
     changed = [*changed_streams(inputs_of(options, options.part), SWEEPS, reading), *changed_streams(inputs_of(options, options.invisible), INVISIBLE, reading)]
     answers = answers_of(list(dict.fromkeys(line_of(kind, words) for _, kind, words in changed)), options.bin)
     tally, known = Tally((*SWEEPS, *INVISIBLE)), {}
@@ -164,7 +163,7 @@ def streams(options, reading):
 
 
 def too_many_apart(counts):
-    """The sweeps of many streams of which too many are answered by one of the two alone, with how many are, and of how many."""
+    """The large sweeps of which too many streams are accepted by one of the two alone: each with that number and its size."""
     for sweep, found in counts.items():
         count = sum(found[how] for how in APART)
         if found.total() >= MANY and count > AT_MOST * found.total():
@@ -172,7 +171,7 @@ def too_many_apart(counts):
 
 
 def texts(options, reading):
-    """Compares how the program ends on beginnings of texts, and sees how it ends where a call fails."""
+    """Compares how the program ends on beginnings of texts, and checks how it ends if a call fails."""
     program, tally = options.bin or str(PROGRAM), Tally(("prefixes", "failing reads", "failing writes"))
     inputs = [each for each in inputs_of(options, options.part) if each.kind in WORDS]
     cut = list(dict.fromkeys((each.kind, data) for each in inputs for data in beginnings(each.text)))
@@ -191,14 +190,14 @@ def texts(options, reading):
 
 def parsed_words():
     parser = argparse.ArgumentParser(description=__doc__, formatter_class=argparse.RawDescriptionHelpFormatter)
-    parser.add_argument("what", choices=("streams", "texts"), help="what is cut")
+    parser.add_argument("what", choices=("streams", "texts"), help="what to cut")
     parser.add_argument("--bin", help="the program, built")
-    parser.add_argument("--part", type=part, default=(1, 1), metavar="I/N", help="of N parts the I-th (1/1)")
+    parser.add_argument("--part", type=part, default=(1, 1), metavar="I/N", help="the I-th of N parts (1/1)")
     parser.add_argument("--invisible", type=part, default=(1, 1), metavar="I/N", help="the same for the streams with an invisible group (1/1)")
-    parser.add_argument("--jobs", type=int, default=len(os.sched_getaffinity(0)), help="how many runs of `texts` go on side by side")
+    parser.add_argument("--jobs", type=int, default=len(os.sched_getaffinity(0)), help="how many runs of `texts` are concurrent")
     parser.add_argument("--stage", type=int, default=STAGE, help=f"how much of the grammar is built ({STAGE})")
     parser.add_argument("--conformance", type=Path, default=CONFORMANCE, help="the file of cases with answers")
-    parser.add_argument("--oracle", type=Path, default=ORACLE, help="the folder of the other reading")
+    parser.add_argument("--oracle", type=Path, default=ORACLE, help="the folder of the oracle")
     return parser.parse_args()
 
 

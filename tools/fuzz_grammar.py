@@ -27,26 +27,12 @@ from grammarlib.reader import Reader, Refused
 from grammarlib.sentences import LONGEST, Sentences, TooDeep
 from grammarlib.source import Source
 from grammarlib.tokens import DELIMITER_TEXTS, Group, Ident, Literal, Punct, read_text, shown, stream
+from kindslib.table import ORACLE_KINDS as KINDS
 
 HERE = Path(__file__).resolve().parent
 CRATE = HERE.parent / 'crates' / 'syn_grammar'
 # how far the oracle builds the grammar
 STAGE = 15
-# the oracle's name of a kind, and the rule that reads it
-KINDS = {
-    'derive': 'derive_input', 'visibility': 'visibility', 'fields-unnamed': 'fields_unnamed', 'unnamed-field': 'unnamed_field',
-    'fields-named': 'fields_named', 'variant': 'variant', 'named-field': 'named_field', 'item-struct': 'structure',
-    'item-enum': 'enumeration', 'item-union': 'union_item', 'type': 'type', 'expr': 'whole_expression', 'block': 'block',
-    'stmt': 'statement', 'stmts': 'statements', 'signature': 'signature', 'fn-arg': 'argument', 'receiver': 'receiver',
-    'item-fn': 'function', 'safe-or-unsafe': 'safe_or_unsafe', 'unsafe-only': 'unsafe_only', 'item': 'item', 'use-tree': 'use_tree',
-    'item-const': 'const_item', 'item-static': 'static_item', 'item-type': 'type_item', 'item-use': 'use_item',
-    'item-extern-crate': 'extern_crate', 'item-mod': 'module_item', 'item-macro': 'macro_item', 'item-trait-alias': 'trait_alias',
-    'trait-item': 'trait_item', 'impl-item': 'impl_item', 'foreign-item': 'foreign_item', 'item-trait': 'trait_definition',
-    'item-impl': 'impl_definition', 'item-foreign-mod': 'foreign_module', 'trait-item-const': 'trait_const',
-    'trait-item-fn': 'trait_function', 'trait-item-type': 'trait_type', 'trait-item-macro': 'trait_macro', 'impl-item-const': 'impl_const',
-    'impl-item-fn': 'impl_function', 'impl-item-type': 'impl_type', 'impl-item-macro': 'impl_macro', 'foreign-item-fn': 'foreign_function',
-    'foreign-item-static': 'foreign_static', 'foreign-item-type': 'foreign_type', 'foreign-item-macro': 'foreign_macro', 'file': 'file',
-}
 # the rules of parts, which the oracle reads by a function and not by a kind
 PARTS = [
     'attributes', 'meta', 'module_path', 'type_path', 'type_words', 'return_type', 'generic_arguments', 'generic_argument',

@@ -6,6 +6,8 @@
     tools/grammar.py --lower    writes tools/untold_borders.txt, of the rules of which fewer borders lack an example than it says
     tools/grammar.py --crate F  the same of the crate in the folder F
 
+The theorems of tools/examples.txt are files of a crate of their own, crates/syn_examples (--examples names another folder).
+
 Fails, with a complaint for each fault, where the table breaks a test that the laws need (docs/GRAMMAR.md says what each means)."""
 import argparse
 import sys
@@ -63,7 +65,7 @@ def complain(complaints):
 
 
 def read_table(crate):
-    """The table, the files that it gives, what its examples lack, and its borders. Ends the script where the table is refused."""
+    """The table, the files that it gives, the files of its examples, what these lack, and its borders. Exits where the table is refused."""
     try:
         source = Source(crate)
         files, complaints = checked(source)
@@ -71,7 +73,7 @@ def read_table(crate):
             complain(complaints)
             sys.exit(f'grammar: {len(complaints)} complaints; nothing was written')
         examples, lacking, borders = worked_examples(source)
-        return source, files | examples, lacking, borders
+        return source, files, examples, lacking, borders
     except Fault as fault:
         sys.exit(f'grammar: {fault}')
 
@@ -83,7 +85,7 @@ def tell_unexplained(source):
     told = page.read_text() if page.exists() else ''
     for rule in source.rules:
         if f'`{rule}`' not in told:
-            print(f'grammar: docs/GRAMMAR.md doesn\'t tell of the rule `{rule}`', file=sys.stderr)
+            print(f'grammar: docs/GRAMMAR.md doesn\'t describe the rule `{rule}`', file=sys.stderr)
 
 
 def lower(borders):
@@ -93,32 +95,39 @@ def lower(borders):
     print(f'grammar: {sum(counts.values())} borders without an example, {sum(borders.untold.values())} before')
 
 
+def named(paths):
+    """The paths without the folders above the crates."""
+    return ', '.join('/'.join(path.parts[-3:]) for path in paths)
+
+
 def main():
     parser = argparse.ArgumentParser(description=__doc__, formatter_class=argparse.RawDescriptionHelpFormatter)
     parser.add_argument('--check', action='store_true', help='write nothing, and fail where a file differs or the examples lack something')
     parser.add_argument('--crate', type=Path, default=HERE.parent / 'crates' / 'syn_grammar')
+    parser.add_argument('--examples', type=Path, default=HERE.parent / 'crates' / 'syn_examples', help='the folder of the crate of the examples')
     parser.add_argument('--lower', action='store_true', help='write the counts of borders without an example that became fewer')
     options = parser.parse_args()
-    source, files, lacking, borders = read_table(options.crate)
+    source, files, examples, lacking, borders = read_table(options.crate)
     if options.lower:
         lower(borders)
         return
     tell_unexplained(source)
     tell_lacking(lacking)
-    stale = [p for p, text in files.items() if not (options.crate / p).exists() or (options.crate / p).read_text() != text]
-    others = [f'proofs/{p.name}' for p in sorted((options.crate / 'proofs').glob('Examples*.antt')) if f'proofs/{p.name}' not in files]
+    written = {options.crate / p: text for p, text in files.items()} | {options.examples / p: text for p, text in examples.items()}
+    stale = [p for p, text in written.items() if not p.exists() or p.read_text() != text]
+    others = [p for p in sorted((options.examples / 'proofs').glob('Examples*.antt')) if p not in written]
     if options.check:
         if stale or others:
-            sys.exit('grammar: run tools/grammar.py; these files are not what it writes: ' + ', '.join(stale + others))
+            sys.exit('grammar: run tools/grammar.py; these files are not what it writes: ' + named(stale + others))
         if lacking:
             sys.exit(f'grammar: {len(lacking)} things are lacking in the examples')
         print(f'grammar: {len(source.rules)} rules, all files as written; {sum(borders.counts.values())} borders without an example')
         return
     for path in others:
-        (options.crate / path).unlink()
+        path.unlink()
     for path in stale:
-        (options.crate / path).write_text(files[path])
-    print(f'grammar: {len(source.rules)} rules; written: {", ".join(stale) or "nothing, all files stood so"}')
+        path.write_text(written[path])
+    print(f'grammar: {len(source.rules)} rules; written: {named(stale) or "nothing, all files are up to date"}')
 
 
 if __name__ == '__main__':

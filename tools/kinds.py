@@ -1,122 +1,63 @@
 #!/usr/bin/env python3
-"""Writes what is the same for every type of syntax, from the structs and enums of the crates of trees (syn_lower, syn_pat,
-syn_expr_parse, syn_expr, syn_tree, syn_item) and the table of kinds below.
+"""Writes the code that is the same for every type of syntax, from the structs and enums of the crates of trees (syn_lower, syn_pat,
+syn_expr_parse, syn_expr, syn_tree, syn_item), and every list of kinds, from tools/kinds.txt.
 
     tools/kinds.py            writes the files; run it at the top of the repository, and commit what it writes
-    tools/kinds.py --check    writes nothing; fails where a file isn't as it would write it
+    tools/kinds.py --check    writes nothing; fails where a file differs, or where a view leaves out a field of its struct
 
-It writes, laid out as `rt fmt` wants it, in the crates of trees:
+In the crates of trees it writes, in the layout of `rt fmt`:
 
-    src/**.rt             at the end of each file, under a line that says so: `Model` and `Syntactic` (the language wants the
-                          first in the module of its type)
-    specs/Plain.antt      the views of structs that are their rule's parts in order
+    src/**.rt             at the end of each file, after a line that says so: `Model` (which the language requires in the module of its
+                          type) and `Syntactic`
+    specs/Plain.antt      the views of structs whose fields are the parts of their rule in order
     src/copies**          `TryClone`
     src/compare**         `Compared`, `PartialEq`, `Eq`
     src/prints**          `Print`, `ToTokens`
 
-and beside them:
+and besides:
 
     crates/syn_tree/src/comma_lists.rt  the function of each rule that is a comma list, with its proof (proofs/CommaLists)
-    crates/syn/src/kinds.rt             `Canonical`, of the kinds below and of what else is read by one rule
-    docs/GRAMMAR.md                     the table of rules, each in the words above it, with what reads it
-    crates/syn_canon                    src/kind.rt, src/by_kind.rt, specs/Kinds.antt: the program's list of kinds
-    crates/tree_answers/src/by_kind.rt  the same kinds, by their trees and by their rules
-    crates/cut_streams/src/by_kind.rt   the same of all types that are read by one rule
-    crates/memory_sweep/src             by_kind.rt, variants.rt: what has a parser, by its name, and how it tells its variant
+    crates/syn_item                     src/conversions**: `From`; the kinds of specs/Items.antt
+    crates/syn                          src/kinds.rt: `Canonical`; the exports of items in src/lib.rt
+    crates/syn_answers                  the kinds of items in src/list.rt, names.rt, guess.rt, specs/Listing.antt, proofs/Listing.antt
+    crates/syn_canon                    src/kind.rt, src/by_kind.rt, specs/Kinds.antt; the kinds of items in src/listing.rt, specs/Lines.antt
+    crates/syn_test_support             src/outline/choices.rt: the outlines of items and members
+    crates/check_rows/src               by_kind.rt, forms_by_kind.rt, conversions.rt: the types by their names
+    crates/tree_answers/src/by_kind.rt  the program's kinds, by their trees and by their rules
+    crates/cut_streams/src/by_kind.rt   the same of all types with a rule
+    crates/memory_sweep/src             by_kind.rt, variants.rt: all types with a parser, by their names, and their variants
+    docs/GRAMMAR.md                     the table of rules: each with its sentence in the grammar, and its reader
 
-What is odd is written by hand, and then left out here: a `view_X` in a file of specs/, or an `impl TryClone for X`, `impl Compared
-for X` .. in a file of src/. A struct with a `syntax_of_X` of its own has no `Model`, unless it has a `view_X` too: then that is
-its value, of which `syntax_of_X` tells the syntax. A struct without fields only holds a place, unless it has a `syntax_of_X`. A list
-is one that may be empty (`list_of`), unless JOINED names it.
+A file of which only parts are written has them between two comments (kindslib/parts.py).
+
+Odd cases are written by hand, and left out here: a type is odd if a file of specs/ has a `view_X`, or a file of src/ an `impl TryClone for
+X`, `impl Compared for X` .. by hand. A struct with a `syntax_of_X` has no `Model`, unless it has a `view_X` too: then the view is its
+value, and `syntax_of_X` maps the value to the syntax. A struct without fields only marks a place, unless it has a `syntax_of_X`. A list may
+be empty (`list_of`), unless JOINED names it.
 """
 import argparse
 import sys
 from pathlib import Path
 
+from kindslib.conversions import conversions
+from kindslib.exports import exports
+from kindslib.fields import missing_fields
 from kindslib.grammar import rows
 from kindslib.impls import comparisons, copies, prints
+from kindslib.items import listing
 from kindslib.lists import comma_lists
+from kindslib.outlines import outlines
 from kindslib.program import answers_of_streams, canonical, comparisons_of_answers, dispatch, kind_enum, kind_specs
+from kindslib.rows import row_kinds
 from kindslib.source import LOWEST, Fault, Source
 from kindslib.sweep import sweeps, variant_names
+from kindslib.table import INNER, KINDS, OTHERS, PARSED, ROWS, TEXTS
 from kindslib.views import endings, plain_views
 
-# the program's word, the type, the rule that reads it
-KINDS = [
-    ("file", "File", "file"),
-    ("item", "Item", "item"),
-    ("derive", "DeriveInput", "derive_input"),
-    ("visibility", "Visibility", "visibility"),
-    ("variant", "Variant", "variant"),
-    ("named-field", "NamedField", "named_field"),
-    ("unnamed-field", "UnnamedField", "unnamed_field"),
-    ("fields-named", "FieldsNamed", "fields_named"),
-    ("fields-unnamed", "FieldsUnnamed", "fields_unnamed"),
-    ("signature", "Signature", "signature"),
-    ("fn-arg", "FnArg", "argument"),
-    ("receiver", "Receiver", "receiver"),
-    ("use-tree", "UseTree", "use_tree"),
-    ("trait-item", "TraitItem", "trait_item"),
-    ("impl-item", "ImplItem", "impl_item"),
-    ("foreign-item", "ForeignItem", "foreign_item"),
-    ("item-const", "ItemConst", "const_item"),
-    ("item-enum", "ItemEnum", "enumeration"),
-    ("item-extern-crate", "ItemExternCrate", "extern_crate"),
-    ("item-fn", "ItemFn", "function"),
-    ("item-foreign-mod", "ItemForeignMod", "foreign_module"),
-    ("item-impl", "ItemImpl", "impl_definition"),
-    ("item-macro", "ItemMacro", "macro_item"),
-    ("item-mod", "ItemMod", "module_item"),
-    ("item-static", "ItemStatic", "static_item"),
-    ("item-struct", "ItemStruct", "structure"),
-    ("item-trait", "ItemTrait", "trait_definition"),
-    ("item-trait-alias", "ItemTraitAlias", "trait_alias"),
-    ("item-type", "ItemType", "type_item"),
-    ("item-union", "ItemUnion", "union_item"),
-    ("item-use", "ItemUse", "use_item"),
-    ("block", "Block", "block"),
-    ("stmt", "Stmt", "statement"),
-    ("stmts", "Stmts", "statements"),
-]
-
-# what else is read by one rule, and is no KIND of the program: the type, the rule
-OTHERS = [
-    ("SafeOrUnsafe", "safe_or_unsafe"),
-    ("UnsafeOnly", "unsafe_only"),
-    ("Abi", "abi"),
-    ("TraitItemConst", "trait_const"),
-    ("TraitItemFn", "trait_function"),
-    ("TraitItemMacro", "trait_macro"),
-    ("TraitItemType", "trait_type"),
-    ("ImplItemConst", "impl_const"),
-    ("ImplItemFn", "impl_function"),
-    ("ImplItemMacro", "impl_macro"),
-    ("ImplItemType", "impl_type"),
-    ("ForeignItemFn", "foreign_function"),
-    ("ForeignItemMacro", "foreign_macro"),
-    ("ForeignItemStatic", "foreign_static"),
-    ("ForeignItemType", "foreign_type"),
-    ("Macro", "macro_invocation"),
-    ("Pat", "pattern"),
-    ("LifetimeParam", "lifetime_parameter"),
-    ("Path", "type_path"),
-    ("ReturnType", "return_type"),
-    ("Type", "type"),
-    ("TypeParamBound", "bound"),
-    ("TypePath", "path_as_type"),
-    ("WherePredicate", "predicate"),
-]
-
-# what is read by one rule, but without the node around it that the rule makes: the type, the rule
-INNER = [("Expr", "whole_expression")]
-# what has a parser, and no canonical print: types, and tokens that hold a text
-PARSED = ["Expr", "Generics", "Lit", "WhereClause"]
-TEXTS = ["Ident", "Lifetime"]
-
-# lists with one value at least, which end with one
+# lists with at least one value, and none after their last separator
 JOINED = {("Path", "segments")}
 
-# what is printed by the tree that holds it, and not by itself
+# types that are printed as a part of their holder only
 UNPRINTED = {
     "AttrStyle",
     "ConstModifiers",
@@ -138,6 +79,8 @@ UNPRINTED = {
 }
 
 CRATES = Path("crates")
+# the crates of trees
+TREES = [LOWEST, "syn_pat", "syn_expr_parse", "syn_expr", "syn_tree", "syn_item"]
 
 
 class Together:
@@ -151,7 +94,7 @@ class Together:
         return next(source for source in self.sources if name in source.types).path_of(name)
 
     def owner(self, t):
-        """The source of the crate in which a type stands."""
+        """The source of the crate that has this type."""
         return next(source for source in self.sources if source.crate.name == t.crate)
 
 
@@ -167,13 +110,13 @@ def sources():
 
 
 def together(crates):
-    """The types of all of these crates of trees, which stand below each other."""
+    """The types of all of these crates, each of which uses the one before it."""
     _, patterns, operators, expressions, source, items = crates
     return Together(items, patterns, operators, expressions, source)
 
 
 def outputs():
-    """What stands in each file that this script writes, or has a part of."""
+    """The text of each file that this script writes, or has a part of."""
     crates = lower, patterns, operators, expressions, source, items = sources()
     files = {}
     for crate in (lower, patterns, operators, expressions, source, items):
@@ -186,6 +129,9 @@ def outputs():
     files.update(comma_lists(source, table))
     files[page] = rows(source, table, page, patterns, operators, expressions, items)
     trees = together(crates)
+    files.update(conversions(trees, CRATES))
+    files.update(exports(trees, CRATES))
+    files.update(listing(trees, ROWS["program"], table, CRATES))
     files[CRATES / "syn/src/kinds.rt"] = canonical(trees, [kind[1:] for kind in KINDS] + OTHERS)
     files[CRATES / "syn_canon/src/kind.rt"] = kind_enum(KINDS)
     files[CRATES / "syn_canon/src/by_kind.rt"] = dispatch(KINDS)
@@ -193,14 +139,16 @@ def outputs():
     files[CRATES / "tree_answers/src/by_kind.rt"] = comparisons_of_answers(trees, KINDS)
     files[CRATES / "cut_streams/src/by_kind.rt"] = answers_of_streams(trees, [kind[1:] for kind in KINDS] + OTHERS + INNER)
     kinds, others = [name for _, name, _ in KINDS], [name for name, _ in OTHERS]
+    files.update(row_kinds(trees, [*kinds, *others], PARSED, CRATES))
+    files.update(outlines(trees, CRATES))
     files[CRATES / "memory_sweep/src/by_kind.rt"] = sweeps(trees, kinds, others, PARSED, TEXTS)
     files[CRATES / "memory_sweep/src/variants.rt"] = variant_names(trees, [*kinds, *others, *PARSED], TEXTS)
     return files
 
 
 def leftovers(files):
-    """Files in the folders that are this script's alone which it wouldn't write."""
-    folders = [CRATES / crate / name for crate in (LOWEST, "syn_pat", "syn_expr_parse", "syn_expr", "syn_tree", "syn_item") for name in ("src/copies", "src/compare", "src/prints", "proofs/comma_lists")]
+    """Files that this script wouldn't write, in the folders that it alone writes."""
+    folders = [CRATES / crate / name for crate in TREES for name in ("src/copies", "src/compare", "src/prints", "proofs/comma_lists")]
     return [path for folder in folders for path in sorted(folder.rglob("*.*t*")) if path.is_file() and path not in files]
 
 
@@ -214,10 +162,13 @@ def main():
         sys.exit(f"kinds: {fault}")
     if options.check:
         stale = [str(path) for path, text in files.items() if not path.is_file() or path.read_text() != text]
-        stale += [f"{path} (nothing is to stand there)" for path in leftovers(files)]
+        stale += [f"{path} (no such file is written)" for path in leftovers(files)]
         if stale:
             sys.exit("kinds: not as this script writes them: " + ", ".join(stale))
-        print(f"kinds: {len(files)} files as written")
+        missing, count = missing_fields([CRATES / name for name in TREES])
+        if missing or not count:
+            sys.exit("kinds: fields that the view of their struct leaves out: " + (", ".join(missing) or "no field was found"))
+        print(f"kinds: {len(files)} files as written, each of {count} fields in its view")
         return
     for path in leftovers(files):
         path.unlink()

@@ -4,11 +4,11 @@
     tools/mutate_table.py                     all changes of every rule (some hundred, in some seconds)
     tools/mutate_table.py --count N --seed S  a sample of them
     tools/mutate_table.py --rule NAME --all   the changes of one rule, each with what finds it out
-    tools/mutate_table.py --find              of each change that nobody finds out, looks for a text that tells it
+    tools/mutate_table.py --find              for each change that nothing detects, looks for a text that does
 
-A change is found out by a worked example of its rule (tools/examples.txt) that the changed table reads otherwise, or by a law that refuses
+A change is detected by a worked example of its rule (tools/examples.txt) that the changed table reads otherwise, or by a law that refuses
 the changed table. Changes that alter nothing of what is read and printed are named in tools/equivalent_mutants.txt, with the reason. Of
-some rules not each border has an example yet; how many lack one stands in tools/untold_borders.txt (tools/grammar.py counts them).
+some rules not each border has an example yet; tools/untold_borders.txt has their number (tools/grammar.py counts them).
 Ends with 1 where a change of another rule gets through. Writes no file."""
 import argparse
 import random
@@ -85,7 +85,7 @@ def telling_text(borders, mutant, dice):
 
 
 def quiet_changes(borders, options):
-    """Changes of what tokens promise to tell: how many a law refuses, and how many promise more than anybody asks."""
+    """Changes of the facts that tokens promise: how many a law refuses, and how many of them are never tested."""
     found = [m for rule in borders.table for m in borders.mutants.of_facts(rule) if options.rule in (None, rule)]
     refused = sum(borders.law(m) is not None for m in found)
     return f'{len(found)} promises taken back: {refused} refused by a law, {len(found) - refused} that nobody asks for'
@@ -99,7 +99,7 @@ def main():
     parser.add_argument('--count', type=int, default=0, help='how many changes are tried; 0: all')
     parser.add_argument('--seed', type=int, default=1)
     parser.add_argument('--all', action='store_true', help='print each change, not only those that get through')
-    parser.add_argument('--find', action='store_true', help='look for texts that tell the changes that get through')
+    parser.add_argument('--find', action='store_true', help='look for texts that detect the changes that get through')
     options = parser.parse_args()
     started = time.time()
     try:
@@ -114,7 +114,7 @@ def main():
         fates[kind] += 1
         through = kind == 'GETS THROUGH' or (kind == 'without an example' and options.find)
         if through and options.find:
-            name = telling_text(borders, mutant, dice) or f'no text of {TRIES} tells it'
+            name = telling_text(borders, mutant, dice) or f'no text of {TRIES} detects it'
         if through or options.all:
             print(f'{kind}: {mutant.rule}: {mutant.change}' + (f' ({name})' if name else ''))
     print(f'{sum(fates.values())} changes of the table: ' + ', '.join(f'{n} {kind}' for kind, n in sorted(fates.items())))

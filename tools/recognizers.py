@@ -2,8 +2,8 @@
 """Writes the table of the grammar as data of crates/syn_recognize: src/rules.rt, src/rules/*.rt, src/shape.rt, src/words.rt,
 src/plan.rt, specs/Names.antt, specs/Parts.antt, specs/Stages.antt, proofs/Known.antt and proofs/PlannedCourses.antt.
 
-Run it at the top of the repository; what it writes is committed. With --check it writes nothing, and fails where a file
-isn't as it would write it. It formats what it writes by `rt fmt`."""
+Run it at the top of the repository; the written files are committed. With --check it writes nothing, and fails where a file
+differs. It formats the files by `rt fmt`."""
 
 import argparse
 import re
@@ -21,11 +21,11 @@ CRATE = Path('crates/syn_recognize')
 GRAMMAR = Path('crates/syn_grammar')
 WRITTEN = 'Written by tools/recognizers.py; edits are lost.'
 
-# The rules that are read only by the plan of a union that they are of, or never.
+# Rules that only the plan of their union reads, or nothing.
 BY_PLANS = ['kept_item', 'kept_item_rest', 'kept_in_block', 'item_rest', 'kept_trait_item', 'kept_impl_item', 'kept_foreign_item', 'marked_member',
             'rooted_use', 'crate_macro_item', 'const_trait', 'const_impl', 'odd_const_impl']
 
-# The files of rules: the first rule of each, and what it holds.
+# The files of rules: the name of each, its first rule, and its subject.
 TOPICS = [
     ('attributes', 'attributes', 'Attributes, and paths in module style.'),
     ('visibilities', 'visibility', 'Visibilities.'),
@@ -35,14 +35,14 @@ TOPICS = [
     ('inputs', 'structure', 'Structs, enums, unions, and the input of a derive.'),
     ('patterns', 'expression_path', 'Paths in expressions, macros and patterns.'),
     ('lists', 'expressions', 'Lists of expressions.'),
-    ('blocks', 'block', 'Blocks, and expressions with nothing before or behind them.'),
-    ('postfixes', 'postfixes', 'What stands before an expression, and behind it.'),
+    ('blocks', 'block', 'Blocks, and expressions without prefixes and postfixes.'),
+    ('postfixes', 'postfixes', 'Prefixes and postfixes of expressions.'),
     ('operators', 'casts', 'Operators, and whole expressions.'),
     ('heads', 'primary_head', 'Expressions in the heads of `if`, `while` and `for`.'),
     ('statements', 'operand_rest', 'Statements.'),
     ('signatures', 'no_attributes', 'Signatures and their parameters.'),
     ('items', 'function', 'Items.'),
-    ('kept_items', 'bodiless_function', 'Items that are kept as tokens.'),
+    ('kept_items', 'bodiless_function', 'Items that are stored verbatim.'),
     ('traits', 'supertraits', 'Traits.'),
     ('impls', 'self_type', 'Impls.'),
     ('foreign', 'foreign_module', 'Foreign modules.'),
@@ -52,31 +52,31 @@ TOPICS = [
     ('files', 'kept_item_rest', 'Any items, and files.'),
 ]
 
-# How large a static is at most; what goes beyond is a part, with a static of its own. Rattle's own compiler refuses a type of 585 parts and
-# takes one of 540 ("too much code for the backend's tables"), and a static is one with the parts of all forms, plans and looks in it.
+# The largest size of a static; a larger form is cut into parts with statics of their own. Rattle's own compiler refuses a type of 585 parts
+# ("too much code for the backend's tables") and accepts one of 540; the type of a static has the parts of all forms, plans and looks in it.
 LARGEST = 520
 PARTS = {'Form': 47, 'Plan': 25, 'Look': 8}
 
-# Rules whose refusals have words of their own: where a form is never read, and where a mark is lacking.
+# Rules with error messages of their own: at a form that is never read, and at a missing mark.
 REFUSING = {'after_expression': 'MissingEnd', 'unnamed_field': 'DefaultValue', 'primary': 'BreakValue', 'primary_head': 'BreakValue'}
 LACKING = {'statement': (';', 'MissingSemi'), 'statement_end': (';', 'MissingSemi')}
 
-# What a statement alone is, where its end is said to be lacking too.
+# A single statement, whose missing end is reported too.
 UNENDED = ('&', ('rule', ('whole_expression',)), ('mark', False, ';'))
 
-# Tokens and marks of rules at which a form that is left out may stand: src/left_out.rt says which.
+# Tokens and marks of rules where Rust accepts a form that the grammar leaves out: src/left_out.rt recognizes it.
 PLACES = {
     ('expression_words', 'NameOrPathStart'): 'Expression', ('type_words', 'NameOrPathStart'): 'Type', ('more_type_words', 'NameOrPathStart'): 'Type', ('pattern', 'Name'): 'Pattern',
     ('member', 'Name'): 'Member', ('loop_expression', 'Word(Word::In)'): 'Behind', ('local', 'Semi'): 'Behind',
 }
 
-# Lists without which a part isn't printed, by their rules; what stands before each is told by src/fading.rt.
+# Lists without which a part isn't printed, by their rules; src/fading.rt has the token before each.
 FADING = {'lifetimes': 'Lifetimes', 'parameter_bounds': 'Bounds', 'predicates': 'Predicates', 'supertraits': 'Supertraits', 'type_bounds': 'TypeBounds'}
 
 # Lists in `< >`, by their first members.
 ORDERED = {('lifetime',): 'Arguments', ('rule', ('lifetime_parameter',)): 'Parameters'}
 
-# Rules of parameters whose name may be left out; what stands behind the name is told by src/supplied.rt.
+# Rules of parameters whose name may be left out; src/supplied.rt has what follows the name.
 NAMELESS = {'argument': 'Argument', 'input_rest': 'Input'}
 
 # Rules with a union, which is read by a plan (grammarlib/plans.py): by the specifications' plan, or by one of these.
@@ -123,15 +123,15 @@ statement_alone =
     reads (rule attributes) λ a. turns at_item (item_behind a) (reads other_statement λ s. ends s)
 '''
 
-# What is a part of its rule, however large it is, since others speak of it.
+# Forms that are always parts of their own, since proofs and sources name them.
 CUT = [('generics', ('first', 'second')), ('member', ('second',)), ('type_words', ('second',)), ('more_type_words', ('second',)), ('expression_words', ('second',))]
 
-# Looks that no part of a look is data of: a function tells each.
+# Lookaheads that are not composed of others: a function decides each.
 TOLD = ['at_any_literal', 'at_lifetime', 'at_inner_attribute', 'at_arguments', 'at_association', 'at_turbofish', 'at_path_word',
         'at_pattern_path', 'at_macro', 'at_brace_macro', 'at_lone_crate', 'at_crate_macro', 'at_bang', 'at_postfix_mark',
         'at_block_like', 'at_whole_expression', 'at_unfinished', 'at_restriction', 'at_nameless_fields', 'at_parameter_end', 'at_predicate_end', 'at_item', 'at_receiver', 'at_no_macro_item']
 
-# Other looks that a function tells.
+# Other lookaheads that a function decides.
 ALSO_TOLD = {
     ('and_also', ('at_mark', '<'), ('ahead', ('Before_parameter',))): 'Generics',
     ('at_literal', ('Str',)): 'StrLiteral', ('ahead', ('Before_colons',)): 'BeforeColons', ('ahead', ('Before_macro',)): 'BeforeMacro',
@@ -147,7 +147,7 @@ TOKENS = {
 
 
 def size(text):
-    """The parts of the type of a static of this text."""
+    """How many parts the type of a static with this text has."""
     return sum(parts * text.count(f'&{name}::') for name, parts in PARTS.items()) + PARTS[text.split('::')[0]]
 
 
@@ -159,9 +159,9 @@ def camel(name):
     return ''.join(it.capitalize() for it in name.split('_'))
 
 
-# How many rules, parts or stages one function tells at most: a search for what stands behind all others gives up at 28.
+# How many rules, parts or stages one function matches at most: the proof search for the last of 28 gives up.
 MOST = 24
-# The same of parts of plans, which are larger: of 21 the last wasn't found.
+# The same for parts of plans, which are larger: the search for the last of 21 fails.
 MOST_PLANNED = 17
 
 
@@ -174,7 +174,7 @@ def groups_of(name, things, most=MOST):
 
 
 def picked(cases, of='place'):
-    """The body of a function that answers the thing at a place; the last one's where there is none."""
+    """The body of a function that returns the case at a place; the last one beyond all places."""
     if len(cases) == 1:
         return [f'    {cases[0]}', '}', '']
     return [f'    match {of} {{', *[f'        {i} => {case},' for i, case in enumerate(cases[:-1])], f'        _ => {cases[-1]},', '    }', '}', '']
@@ -249,7 +249,7 @@ class Writer:
         return self.named('Token', TOKENS[kind])
 
     def placed(self, kind, it):
-        """A token or a mark; of some it is said where they stand."""
+        """A token or a mark; some with their place in the rule."""
         place = PLACES.get((self.rule, it.split('::', 1)[1]))
         return self.named('Form', f'{kind}At({it}, {self.named("Place", place)})' if place else f'{kind}({it})')
 
@@ -262,7 +262,7 @@ class Writer:
         return self.named('Shape', f'{camel(name)}({self.named("Variant", rest[0][0])})')
 
     def both_ways(self, one, other, way):
-        """What follows a whole expression that ends with braces, and one that doesn't."""
+        """The forms after a whole expression that ends with braces, and after one that doesn't."""
         assert one[:2] == ('&', ('such', ('trailing_brace',), ('rule', ('whole_expression',)))), one
         assert other[:2] == ('&', ('such', ('no_trailing_brace',), ('rule', ('whole_expression',)))), other
         return self.made('ByBraces(', [(one[2], (*way, 'first', 'second')), (other[2], (*way, 'second', 'second'))])
@@ -378,23 +378,23 @@ class Writer:
         return [f'//! {WRITTEN}', '//!', f'//! {sentence}', *specs, *self.imports(), *body, *functions]
 
     def teller(self, name, group):
-        """The function that answers the forms of a group of a topic's rules."""
+        """The function that returns the forms of a group of a topic's rules."""
         return 'form_at' + group[len(name):]
 
     def rule_groups(self):
-        """Rules by where they stand: the group's name, the function that answers their forms, and the rules."""
+        """Rules in groups: the group's name, the function that returns their forms, and the rules."""
         return [(group, f'{name}::{self.teller(name, group)}', some) for name, _, rules in self.topics() for group, some in groups_of(name, rules)]
 
     def place(self, things):
         return 'place' if len(things) > 1 else '_place'
 
     def at(self, function, promise, things, cases, visible='pub(super) '):
-        """A function that answers a form by its place."""
+        """A function that returns a form by its place."""
         return ['#[tactic(auto, using(std::proofs::lemmas::List::get_or_past), unfolding(crate::specs::Names::rule_of, crate::specs::Parts::part_form))]',
                 f"{visible}fn {function}({self.place(things)}: u8) -> &'static Form", f'    ensures {{ parse_form (grammar_of result.now) ≡ parse_form ({promise}) }}', '{', *picked(cases)]
 
     def statics(self, rule):
-        """A rule's form, and behind it those of its parts."""
+        """A rule's form, followed by those of its parts."""
         before = len(self.parts)
         form = self.form_of(rule)
         parts = [('', f'/// A part of `{k}`.', f'static {self.constant(name)}: Form = {text};') for name, k, _, text in self.parts[before:]]
@@ -430,14 +430,14 @@ class Writer:
             'ghost use Rattle.syn_recognize.specs.Forms.{grammar_of};', 'ghost use Rattle.syn_recognize.specs.Names.{rule_of};',
             'ghost use Rattle.syn_recognize.specs.Parts.{part_form};', '',
             'use crate::form::Form;', '', *[f'mod {name};' for name in sorted(name for name, _, _ in topics)], '',
-            '/// Where rules stand: in which file, or part of one.', '#[derive(Clone, Copy, PartialEq, Eq)]', 'enum Topic {', *[f'    {camel(name)},' for name, _, _ in self.rule_groups()], '}', '',
-            '/// A rule of the grammar: where it stands.', '#[derive(Clone, Copy, PartialEq, Eq)]', 'pub struct Rule {', '    topic: Topic,', '    place: u8,', '}', '',
+            '/// A file of rules, or a part of one.', '#[derive(Clone, Copy, PartialEq, Eq)]', 'enum Topic {', *[f'    {camel(name)},' for name, _, _ in self.rule_groups()], '}', '',
+            '/// A rule of the grammar, by its group and its place there.', '#[derive(Clone, Copy, PartialEq, Eq)]', 'pub struct Rule {', '    topic: Topic,', '    place: u8,', '}', '',
             'impl Rule {', *[f'    pub const {k.upper()}: Rule = Rule {{ topic: Topic::{camel(name)}, place: {i} }};' for name, _, rules in self.rule_groups() for i, k in enumerate(rules)], '}', '',
             '/// The form of the rule.', '#[tactic(auto, unfolding(crate::specs::Names::rule_of))]', "pub(crate) fn form_of(rule: Rule) -> &'static Form",
             '    ensures { parse_form (grammar_of result.now) ≡ parse_form (table (rule_of rule)) }', '{', '    match rule.topic {',
             *[f'        Topic::{camel(name)} => {function}(rule.place),' for name, function, _ in self.rule_groups()], '    }', '}', '',
-            '/// Where parts stand: of which rules they are.', '#[derive(Clone, Copy)]', 'enum Group {', *[f'    {camel(name)},' for name, _, _ in self.part_groups()], '}', '',
-            "/// A part of a rule's form that has a static of its own: Rattle's own compiler takes no larger ones.", '#[derive(Clone, Copy)]',
+            '/// A group of parts.', '#[derive(Clone, Copy)]', 'enum Group {', *[f'    {camel(name)},' for name, _, _ in self.part_groups()], '}', '',
+            "/// A part of a rule's form with a static of its own: Rattle's own compiler accepts no larger ones.", '#[derive(Clone, Copy)]',
             'pub(crate) struct Part {', '    group: Group,', '    place: u8,', '}', '',
             'impl Part {', *[f'    pub(crate) const {self.constant(part)}: Part = Part {{ group: Group::{camel(name)}, place: {i} }};' for name, _, parts in self.part_groups() for i, part in enumerate(parts)], '}', '',
             '/// The form of the part.', '#[tactic(auto, unfolding(crate::specs::Parts::part_form))]', "pub(crate) fn form_of_part(part: Part) -> &'static Form",
@@ -445,7 +445,7 @@ class Writer:
             *[f'        Group::{camel(name)} => {function}(part.place),' for name, function, _ in self.part_groups()], '    }', '}', '']
 
     def part_groups(self):
-        """Parts by where they stand: the group's name, the function that answers their forms, and the parts."""
+        """Parts in groups: the group's name, the function that returns their forms, and the parts."""
         groups = []
         for name, _, rules in self.topics():
             parts = [part for part, k, _, _ in self.parts if k in rules]
@@ -453,7 +453,7 @@ class Writer:
         return groups + [(name, f'crate::plan::{name}', parts) for name, parts in groups_of('planned', [part for part, _, _, _ in self.plan_parts], MOST_PLANNED)]
 
     def plan(self, it):
-        """A plan as data: of a stage, or what stands in one."""
+        """A plan as data: that of a stage, or one nested in it."""
         kind, *rest = it
         if kind in ('rest', 'kept'):
             return f'Plan::{camel(kind)}(&{self.piece(rest[0])})'
@@ -480,7 +480,7 @@ class Writer:
         return self.form(form, ('planned', form))
 
     def inner(self, it, beside=0):
-        """A plan in another: a stage of its own where it stands twice, or where it is too large for what stands beside it."""
+        """A nested plan: a stage of its own if it is used twice, or is too large beside its neighbours."""
         text = self.plan(it) if it not in self.stage_names else ''
         if text and self.uses_of[it] == 1 and text.count('&') <= 5 and size(text) + beside + PARTS['Plan'] <= LARGEST:
             return text
@@ -508,13 +508,13 @@ class Writer:
         series, planned = self.series(), groups_of('planned', [part for part, _, _, _ in self.plan_parts], MOST_PLANNED)
         return [f'//! {WRITTEN}', '//!', '//! The plans of unions as data.', 'ghost use Rattle.std.specs.Prelude.{◌≡◌};', 'ghost use Rattle.syn_grammar.specs.Run.{parse_form};', 'ghost use Rattle.syn_recognize.specs.Courses.{course_of};', 'ghost use Rattle.syn_recognize.specs.Forms.{grammar_of};', f'ghost use Rattle.syn_recognize.specs.Parts.{{{", ".join(f"{name}_part" for name, _ in planned)}}};', f'ghost use Rattle.syn_recognize.specs.Stages.{{stage_course, planned_course, {", ".join(f"{name}_course" for name, _ in series)}}};', '', *self.imports(), '',
                 '/// A plan: one reading of a union, without a trial.', '#[derive(Clone, Copy)]', 'pub enum Plan {',
-                '    /// The plan of this stage.', '    Go(Stage),', '    /// Reads a form, and goes on.', "    Reads(&'static Form, &'static Plan),",
-                '    /// Goes on by what stands next.', "    Turns(Look, &'static Plan, &'static Plan),", '    /// Reads trees of a use in braces, and goes on by whether one has `::` before it.', "    Rooted(&'static Plan, &'static Plan),",
-                '    /// A plan, and behind it a form.', "    Then(&'static Plan, &'static Form),", '    /// It is of a kind: what is left of it.', "    Rest(&'static Form),",
-                '    /// It is kept as tokens: what is left of it.', "    Kept(&'static Form),", '    /// Reads the generics of an impl, and goes on.', "    Lists(&'static Plan),",
-                '    /// Notes whether what stands next would be read as generics.', "    Led(&'static Plan),", '    /// Reads `for` and the self type of an impl.', "    SelfType(&'static Plan),", '}', '',
+                '    /// The plan of this stage.', '    Go(Stage),', '    /// Reads a form, and continues.', "    Reads(&'static Form, &'static Plan),",
+                '    /// Continues with the plan that the lookahead selects.', "    Turns(Look, &'static Plan, &'static Plan),", '    /// Reads trees of a use in braces, and selects a plan by whether one of them has `::` before it.', "    Rooted(&'static Plan, &'static Plan),",
+                '    /// A plan, followed by a form.', "    Then(&'static Plan, &'static Form),", '    /// It is of a kind: reads the rest.', "    Rest(&'static Form),",
+                '    /// Its tokens are stored verbatim: reads the rest.', "    Kept(&'static Form),", '    /// Reads the generics of an impl, and continues.', "    Lists(&'static Plan),",
+                '    /// Notes whether the next tokens would be read as generics.', "    Led(&'static Plan),", '    /// Reads `for` and the self type of an impl.', "    SelfType(&'static Plan),", '}', '',
                 '/// A form that is read by a plan.', '#[derive(Clone, Copy)]', 'pub enum Planned {', *[f'    {camel(k)},' for k in PLANS], '}', '',
-                '/// Where stages stand: some in each series.', '#[derive(Clone, Copy)]', 'enum Series {', *[f'    {camel(name)},' for name, _ in series], '}', '',
+                '/// A series of stages.', '#[derive(Clone, Copy)]', 'enum Series {', *[f'    {camel(name)},' for name, _ in series], '}', '',
                 '/// A stage of a plan.', '#[derive(Clone, Copy)]', 'pub struct Stage {', '    series: Series,', '    place: u8,', '}', '',
                 'impl Stage {', *[f'    const {stage.upper()}: Stage = Stage {{ series: Series::{camel(name)}, place: {i} }};' for name, stages in series for i, stage in enumerate(stages)], '}', '',
                 *[f'static {self.constant(name)}: Form = {text};' for name, _, _, text in self.plan_parts],
@@ -551,7 +551,7 @@ class Writer:
         return f'{ {"led": "led", "self": "self_type"}[kind]} {inner(rest[0])}'
 
     def planned_file(self):
-        """That the courses of these unions go as their plans."""
+        """The proof that the courses of these unions write what their plans write."""
         lines, called = [], set()
         for k in ('item', 'trait_item', 'impl_item', 'foreign_item', 'derive_input', 'crate_macro', 'use_item_rest', 'type_item_rest', 'impl_definition_rest'):
             goes = {}
@@ -568,7 +568,7 @@ class Writer:
         where = lambda file: [n for n in sorted(called) if re.search(rf'^unfoldable pub {n} :', (GRAMMAR / 'specs' / f'{file}.antt').read_text(), re.M)]
         text = '\n'.join(lines)
         used = lambda names: ', '.join(x for x in names if re.search(rf'(?<![\w.]){x}(?!\w)', text))
-        return [f'-- {WRITTEN}', '-- The courses of unions go as their plans.', 'use Rattle.std.proofs.Common.{Bool, true, false, [], ◌∷◌, refl}',
+        return [f'-- {WRITTEN}', '-- The courses of unions write what their plans write.', 'use Rattle.std.proofs.Common.{Bool, true, false, [], ◌∷◌, refl}',
                 'use Rattle.syn_grammar.specs.Tokens.{Stream, end}', 'use Rattle.syn_grammar.specs.Rules.{' + used(['impl_definition', 'type_item', 'use_item']) + '}',
                 'use Rattle.syn_grammar.specs.Grammar.{' + used(['Left', 'Right', 'Node', 'Both', 'Such']) + '}', 'use Rattle.syn_grammar.specs.Values.{untag}',
                 'use Rattle.syn_grammar.specs.ItemPlan.{' + ', '.join([*where('ItemPlan'), used(['parts', 'absent', 'hidden', 'inherited', 'item_of', 'public', 'plain', 'unwritten'])]) + '}',
@@ -589,7 +589,7 @@ class Writer:
         tokens = used(['Paren', 'Brace', 'Bracket', 'None', 'Str', 'Before_colons', 'Before_macro', 'Begins_item', 'Begins_in', 'Lone_word', 'ended', 'at_name', 'at_word', 'at_mark', 'at_group',
                        'at_literal', 'at_empty_group', 'ahead', 'at_generics', 'at_lifetime', 'at_path_word', 'at_parameter', 'at_path_rest'])
         table = [x for x in used(looks) if x not in tokens]
-        return [f'-- {WRITTEN}', '-- THE COURSES OF PLANS, and the forms of which they are.', 'use Rattle.std.specs.Prelude.{ℕ, true, false, [], ◌∷◌, get_or}',
+        return [f'-- {WRITTEN}', '-- THE COURSES OF PLANS, and the forms that these plans read.', 'use Rattle.std.specs.Prelude.{ℕ, true, false, [], ◌∷◌, get_or}',
                 'use Rattle.syn_grammar.specs.Words.{' + ', '.join(used(words)) + '}', 'use Rattle.syn_grammar.specs.Tokens.{' + ', '.join(tokens) + ', ◌or_else◌, ◌and_also◌, ◌but_not◌}',
                 'use Rattle.syn_grammar.specs.Table.{table, ' + ', '.join(table) + '}', 'use Rattle.syn_grammar.specs.Rules as rules', 'use Rattle.syn_grammar.specs.Shape as shapes',
                 'use Rattle.syn_grammar.specs.Grammar.{' + ', '.join(used(['name', 'word', 'name_or', 'literal_of', 'any_literal', 'index'])) + ', Grammar, empty, token, mark, ◌&◌, when◌then◌else◌, inside, raw, rule, one_of, shaped, vanishing, ordered}',
@@ -683,7 +683,7 @@ class Writer:
         forms = {name: '(' + ''.join(f'{step} (' for step in reversed(way)) + f'table rules.{k}' + ')' * len(way) + ')' for name, k, way, _ in self.parts if k != 'planned'}
         forms |= {name: f'({self.text_at(way)})' for name, _, way, _ in self.plan_parts}
         return [
-            f'-- {WRITTEN}', '-- THE PARTS OF RULES THAT HAVE STATICS OF THEIR OWN: where each stands in its rule.',
+            f'-- {WRITTEN}', '-- THE PARTS OF RULES THAT HAVE STATICS OF THEIR OWN: the place of each in its rule.',
             *self.parts_imports(), f'use {at}.Part.{{Part}}', f'use {at}.Group.{{Group}}', f'use {at}.Group.TheVariants as Group-m', '',
             *[line for name, _, parts in self.part_groups() for line in (f'abbrev pub {name}_part : ℕ → Grammar', f'{name}_part n = get_or {at_place([forms[part] for part in parts])}', '')],
             'abbrev pub part_at : Group → ℕ → Grammar', *[f'part_at Group-m.{camel(name)} n = {name}_part n' for name, _, _ in self.part_groups()], '',
@@ -694,7 +694,7 @@ class Writer:
         return [(name, (name,) in self.shapes) for name in names]
 
     def shape_file(self):
-        return [f'//! {WRITTEN}', '//!', '//! The shapes by which values are built. Reading asks for none of them.', '',
+        return [f'//! {WRITTEN}', '//!', '//! The shapes of values, as the specifications build them. Reading needs none of them.', '',
                 '/// How the value of a form is built.', '#[derive(Clone, Copy)]', 'pub enum Shape {',
                 *[f'    {camel(name)}{"(Variant)" if of else ""},' for name, of in self.shape_variants()], '}', '',
                 '/// A variant of expressions.', '#[derive(Clone, Copy)]', 'pub enum Variant {', *[f'    {name},' for name in sorted(self.variants)], '}', '']
@@ -712,7 +712,7 @@ class Writer:
         copied_word = lambda name: f'copy_text("{self.spelled[name]}", {said(name)}, out, input)'
         copied_mark = lambda name: f'copy_mark{len(self.spelled[name])}({", ".join(map(repr, self.spelled[name]))}, {said(name)}, out, input)'
         lacking = lambda kind, names: [
-            f'/// What is said where this {kind.lower()} is expected at the end.', f"pub(crate) fn {kind.lower()}_at_end({kind.lower()}: {kind}) -> &'static str {{", f'    match {kind.lower()} {{',
+            f'/// The error message where this {kind.lower()} is expected at the end.', f"pub(crate) fn {kind.lower()}_at_end({kind.lower()}: {kind}) -> &'static str {{", f'    match {kind.lower()} {{',
             *[f'        {kind}::{name} => "unexpected end of input, expected `{self.spelled[name]}`",' for name in names], '    }', '}', '']
         copies = 'Copies IsSyntax out.old ({}) result out.new input.new'
         return [
@@ -723,23 +723,23 @@ class Writer:
             'use syn_parse::buffer::ParseBuffer;', 'use syn_parse::read::refusal::Parsed;', 'use syn_tokens::token;', '',
             '/// A word.', '#[derive(Clone, Copy)]', 'pub enum Word {', *[f'    {name},' for name in words], '}', '',
             '/// A mark.', '#[derive(Clone, Copy)]', 'pub enum Mark {', *[f'    {name},' for name in marks], '}', '',
-            *function('Whether this word stands next.', 'at_word(' + look.format('word: Word'), 'result ≡ sees (grammar.at_word (word_text word)) input.now', 'Word', words, peeked),
-            *function('Whether this mark stands next.', 'at_mark(' + look.format('mark: Mark'), 'result ≡ sees (grammar.at_mark (mark_text mark)) input.now', 'Mark', marks, peeked),
+            *function('Whether this word is next.', 'at_word(' + look.format('word: Word'), 'result ≡ sees (grammar.at_word (word_text word)) input.now', 'Word', words, peeked),
+            *function('Whether this mark is next.', 'at_mark(' + look.format('mark: Mark'), 'result ≡ sees (grammar.at_mark (mark_text mark)) input.now', 'Mark', marks, peeked),
             *function('Reads and writes this word.', 'copy_word(' + copy.format('it: Word'), copies.format('take_token (word (word_text it)) input.old'), 'Word', words, copied_word, '#[tactic(auto, unfolding(syn_tokens::specs::Leaves::is_known_word))]'),
             *function('Reads and writes this mark.', 'copy_mark(' + copy.format('mark: Mark'), copies.format('take_mark (mark_text mark) input.old'), 'Mark', marks, copied_mark, '#[tactic(auto, unfolding(syn_tokens::specs::Punct::is_punct_character))]'),
             *lacking('Word', words), *lacking('Mark', marks),
-            '/// Whether this word is a keyword, and no word that is one at some places alone.', 'pub(crate) fn is_known(word: Word) -> bool', '    ensures { result ≡ one_of_texts (word_text word) keywords }', '{', '    match word {',
+            '/// Whether this word is a keyword everywhere, and not a contextual one.', 'pub(crate) fn is_known(word: Word) -> bool', '    ensures { result ≡ one_of_texts (word_text word) keywords }', '{', '    match word {',
             *[f'        Word::{name} => {str(self.spelled[name] in keywords).lower()},' for name in words], '    }', '}', '',
             '/// The first character of this mark.', 'pub(crate) fn first_of(mark: Mark) -> char', '    ensures { result ≡ head_of (mark_text mark) }', '{', '    match mark {',
             *[f"        Mark::{name} => '{self.spelled[name][0]}'," for name in marks], '    }', '}', '',
-            '/// Whether this mark has one character alone.', 'pub(crate) fn is_one(mark: Mark) -> bool', '    ensures { result ≡ may.is_one (mark_text mark) }', '{', '    match mark {',
+            '/// Whether this mark is a single character.', 'pub(crate) fn is_one(mark: Mark) -> bool', '    ensures { result ≡ may.is_one (mark_text mark) }', '{', '    match mark {',
             *[f'        Mark::{name} => {str(len(self.spelled[name]) == 1).lower()},' for name in marks], '    }', '}', '']
 
     def known_file(self):
         at = 'Rattle.syn_recognize.specs.declared.words.Mark'
         marks = sorted(self.rust[text] for text in self.marks)
         return [
-            f'-- {WRITTEN}', '-- What one look at the next token tree tells marks by: each has a first character.', 'use Rattle.std.proofs.Common.{◌≡◌, false, refl}',
+            f'-- {WRITTEN}', '-- How the next token tree alone distinguishes marks: each has a first character.', 'use Rattle.std.proofs.Common.{◌≡◌, false, refl}',
             'use Rattle.syn_recognize.specs.May.{is_empty_text}', 'use Rattle.syn_recognize.specs.Names.{mark_text}', f'use {at}.{{Mark}}', f'use {at}.TheVariants as Mark-m', '',
             'pub known_mark : (m : Mark) → is_empty_text (mark_text m) ≡ false', *[f'known_mark Mark-m.{name} = refl' for name in marks], '']
 
@@ -750,7 +750,7 @@ class Writer:
         told = sorted(TOLD, key=lambda name: name in ('at_lifetime', 'at_path_word'))
         variants = sorted(self.variants)
         return [
-            f'-- {WRITTEN}', '-- WHAT WORDS, MARKS, LOOKS, SHAPES AND RULES AS DATA STAND FOR.', 'use Rattle.std.specs.Prelude.{ℕ, [], ◌∷◌, get_or}', 'use Rattle.syn_grammar.specs.Words.{Text, ' + ', '.join(name for _, name in texts + marks) + '}',
+            f'-- {WRITTEN}', '-- WHAT WORDS, MARKS, LOOKAHEADS, SHAPES AND RULES AS DATA DENOTE.', 'use Rattle.std.specs.Prelude.{ℕ, [], ◌∷◌, get_or}', 'use Rattle.syn_grammar.specs.Words.{Text, ' + ', '.join(name for _, name in texts + marks) + '}',
             'use Rattle.syn_grammar.specs.Words.{w_union, w_auto}', 'use Rattle.syn_grammar.specs.ItemPlan.{at_in_restriction, at_lone_word}',
             'use Rattle.syn_grammar.specs.Tokens.{Int, Str, Before_colons, Before_macro, Begins_item, Look, ended, at_name, at_word, at_mark, at_group, at_literal, at_empty_group, ahead, ◌or_else◌, ◌and_also◌, ◌but_not◌, at_lifetime, at_path_word, at_generics}',
             'use Rattle.syn_grammar.specs.Table.{' + ', '.join(told[:-2]) + '}',
@@ -784,7 +784,7 @@ def write(files, folder):
 
 
 def formatted(files):
-    """The texts as `rt fmt` leaves them: in a crate of its own, so that nothing else is touched."""
+    """The texts formatted by `rt fmt`, in a temporary crate, so that nothing else is touched."""
     with tempfile.TemporaryDirectory() as folder:
         crate = Path(folder) / 'crates' / CRATE.name
         write(files, crate)

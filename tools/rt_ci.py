@@ -45,6 +45,7 @@ BESIDE = ("syn_tokens_tests", "syn_reader_tests", "syn_answers_tests", "syn_item
 # those of other crates by their lines, which are about as many, but for what owns trees. It needn't be exact.
 SECONDS = {
     "syn_grammar": 290,
+    "syn_examples": 280,
     "syn_tokens": 800,
     "syn_parse": 420,
     "syn_whole": 80,

@@ -16,6 +16,7 @@ from grammarlib.tokens import Group, Ident, Literal, Punct, read_text, shown, st
 
 HERE = Path(__file__).resolve().parent
 CRATE = HERE.parent / 'crates' / 'syn_grammar'
+EXAMPLES = HERE.parent / 'crates' / 'syn_examples'
 
 # small tables, each with the complaint that it must meet
 SPOILED = {
@@ -63,10 +64,14 @@ class Table(unittest.TestCase):
         self.assertEqual(complaints, [])
         examples, lacking = Theorems(source, Lookaheads(source)).files(parse(HERE / 'examples.txt', source.rules))
         self.assertEqual(lacking, [])
-        self.assertEqual(sorted(examples), sorted(f'proofs/{p.name}' for p in (CRATE / 'proofs').glob('Examples*.antt')))
-        files |= examples
-        for path, text in files.items():
-            self.assertEqual((CRATE / path).read_text(), text, path)
+        self.assertEqual(sorted(examples), sorted(f'proofs/{p.name}' for p in (EXAMPLES / 'proofs').glob('Examples*.antt')))
+        for crate, texts in ((CRATE, files), (EXAMPLES, examples)):
+            for path, text in texts.items():
+                self.assertEqual((crate / path).read_text(), text, path)
+
+    def test_each_file_of_examples_is_proved(self):
+        modules = (EXAMPLES / 'proofs' / 'Lib.antt').read_text().split()
+        self.assertEqual([p.stem for p in sorted((EXAMPLES / 'proofs').glob('*.antt')) if p.stem not in modules], ['Lib'])
 
     def test_every_rule_and_look_has_a_sentence(self):
         self.assertEqual(Source(CRATE).without_sentence(), [])

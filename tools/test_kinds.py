@@ -108,7 +108,7 @@ class Kinds(unittest.TestCase):
         source = self.crate()
         self.assertNotIn("for Place", copies(source)[self.top / "src/copies/things.rt"])
         source = self.crate(specs=SPECS + "abbrev pub syntax_of_Place : Place → Syntax\n")
-        self.assertIn("        Ok(Place {})\n", copies(source)[self.top / "src/copies/things.rt"])
+        self.assertIn("        Ok(*self)\n", copies(source)[self.top / "src/copies/things.rt"])
         same = comparisons(source)[self.top / "src/compare/things.rt"]
         self.assertIn("    fn is_same(&self, _other: &Place) -> bool {\n        true\n", same)
         self.assertIn("ghost eq = { same_by syntax_of_Place };", same)

@@ -23,7 +23,7 @@ COUNT = 120  # changes of the sample
 WRONG = {
     'a keyword names a variant': ('    & plainly name\n', '    & plainly (name_or (w_crate ∷ []))\n'),
     'a field without a name has no visibility': ('table unnamed_field =\n    rule attributes\n    & rule visibility\n', 'table unnamed_field =\n    rule attributes\n'),
-    'a restriction stands twice': ('inside Paren (rule restriction)', 'inside Paren (rule restriction & (when at_word w_in then rule restriction else empty))'),
+    'a restriction occurs twice': ('inside Paren (rule restriction)', 'inside Paren (rule restriction & (when at_word w_in then rule restriction else empty))'),
 }
 # a rule of forms that the table doesn't use today
 FORMS = '''table a = captured (inside Brace (raw Paren & lifetime)) & vanishing false (at_mark plus) (punctuation plus & either lifetime (plainly name))
@@ -81,8 +81,8 @@ class Mutations(unittest.TestCase):
     def test_a_new_rule_wants_examples(self):
         self.table.write_text(self.table.read_text().rstrip() + '\n--\n-- New.\ntable new =\n    plainly (word w_pub) & punctuation comma\n')
         lacking = self.borders().lacking(['new'])
-        for change in ['`pub` may be left out', '`,` may stand again at the end', '`pub` may be any identifier']:
-            self.assertIn(f'`new`: no example tells the table from one in which {change}', lacking)
+        for change in ['`pub` may be left out', '`,` may occur again at the end', '`pub` may be any identifier']:
+            self.assertIn(f'`new`: no example detects the change "{change}"', lacking)
 
     def test_a_name_that_a_choice_has_seen_to(self):
         self.table.write_text(self.table.read_text().rstrip() + '\n--\n-- New.\ntable new =\n    when at_name then plainly name & plainly name else punctuation comma\n')
@@ -117,7 +117,7 @@ class Mutations(unittest.TestCase):
     def test_listed_changes(self):
         listed = read_equivalent(HERE / 'equivalent_mutants.txt')
         told = {**listed, ('structure_rest', 'the name may also be `crate`'): 'wrongly'}
-        self.assertIn('but the example `struct_rest_crate` tells it', '\n'.join(self.borders(told).lacking(['structure_rest'])))
+        self.assertIn('but the example `struct_rest_crate` detects it', '\n'.join(self.borders(told).lacking(['structure_rest'])))
         unknown = {**listed, ('structure', 'it is blue'): 'wrongly'}
         self.assertIn('is no change of this rule', '\n'.join(self.borders(unknown).lacking(['structure'])))
 
@@ -128,7 +128,7 @@ class Mutations(unittest.TestCase):
         source = Source(self.folder)
         mutants = Mutants(Lookaheads(source), source.table)
         changes = {rule: [m.change for m in mutants.of(rule)] for rule in source.table}
-        self.assertIn('the group { } stands without its delimiters', changes['a'])
+        self.assertIn('the group { } has no delimiters', changes['a'])
         self.assertIn('`+` may also be `,`', changes['a'])
         self.assertIn('the test no_trailing_brace is left out', changes['b'])
         self.assertIn('no b', changes['c'])

@@ -2,16 +2,18 @@
 """Writes the kinds of words and marks of crates/syn_tokens: src/token.rt, src/token/kind.rt,
 src/token/kind/*.rt, specs/Kinds*.antt.
 
-Run it at the top of the repository; what it writes is committed. With --check it writes nothing, and fails where a file
-isn't as it would write it."""
+Run it at the top of the repository, and commit what it writes. With --check it writes nothing, and fails if a file differs
+from what it would write."""
 
 import argparse
 import sys
 from pathlib import Path
 
 CRATE = Path("crates/syn_tokens")
+# the first line of each source and spec
+WRITTEN = "Written by tools/tokens.py; edits are lost."
 
-# name, text, name of the text in syn_grammar's specs/Words
+# name, text, name of the text in specs/Words of syn_grammar
 DECLARATIONS = [
     ("Const", "const", "w_const"), ("Crate", "crate", "w_crate"), ("Enum", "enum", "w_enum"),
     ("Extern", "extern", "w_extern"), ("Fn", "fn", "w_fn"), ("Impl", "impl", "w_impl"), ("In", "in", "w_in"),
@@ -47,18 +49,18 @@ LONG_MARKS = [
     ("PathSep", "::"), ("PercentEq", "%="), ("PlusEq", "+="), ("RArrow", "->"), ("Shl", "<<"), ("ShlEq", "<<="),
     ("Shr", ">>"), ("ShrEq", ">>="), ("SlashEq", "/="), ("StarEq", "*="),
 ]
-# the type, the delimiter, the sentence of both, what a fault calls them
+# the type, the delimiter, the doc comment of both, the name in error messages
 GROUPS = [
     ("Paren", "Paren", "`( )`", "parentheses"),
     ("Brace", "Brace", "`{ }`", "curly braces"),
     ("Bracket", "Bracket", "`[ ]`", "square brackets"),
-    ("Group", "None", "The delimiters of an invisible group: no text shows them.", "invisible group"),
+    ("Group", "None", "The delimiters of an invisible group, which appear in no text.", "invisible group"),
 ]
 
 WORD_FILES = [
     ("declarations", "Words of declarations and paths.", DECLARATIONS),
     ("expressions", "Words of expressions, patterns and types.", EXPRESSIONS),
-    ("others", "Words that are reserved, and words that are keywords in some places alone.", OTHERS),
+    ("others", "Reserved words, and words that are keywords only in some places.", OTHERS),
 ]
 
 
@@ -102,7 +104,9 @@ impl WordKind for {name} {{
 
 def words(title, kinds):
     specs = ", ".join(spec for _, _, spec in kinds)
-    return f"""//! {title}
+    return f"""//! {WRITTEN}
+//!
+//! {title}
 ghost use Rattle.std.specs.Prelude.{{refl}};
 ghost use Rattle.syn_grammar.specs.Words.{{{specs}}};
 ghost use Rattle.syn_tokens.specs.Leaves.{{is_known_word}};
@@ -115,7 +119,7 @@ TRAITS = {1: "OneCharacter", 2: "TwoCharacters", 3: "ThreeCharacters"}
 
 
 def characters(text):
-    """The characters of a mark, and the function that gives them."""
+    """The characters of a mark, and the function that returns them."""
     if len(text) == 1:
         return char(text), "character"
     return "(" + ", ".join(char(c) for c in text) + ")", "characters"
@@ -148,7 +152,9 @@ impl {trait} for {name} {{
 
 
 def marks(title, kinds, traits):
-    return f"""//! {title}
+    return f"""//! {WRITTEN}
+//!
+//! {title}
 ghost use Rattle.std.specs.Prelude.{{refl}};
 ghost use Rattle.syn_tokens.specs.Punct.{{is_punct_character}};
 
@@ -175,7 +181,9 @@ impl DelimiterKind for {name} {{
     }}
 }}
 """ for name, delimiter, signs, called in GROUPS)
-    return f"""//! The delimiters of groups.
+    return f"""//! {WRITTEN}
+//!
+//! The delimiters of groups.
 ghost use Rattle.std.specs.Prelude.{{codes}};
 ghost use Rattle.syn_grammar.specs.Tokens as grammar;
 
@@ -189,7 +197,9 @@ def kind_module():
     files.sort()
     mods = "".join(f"mod {f};\n" for f, _ in files)
     uses = "".join(f"pub use {f}::{name};\n" for f, kinds in files for name in sorted(kind[0] for kind in kinds))
-    return f"""//! The kinds of words, marks and delimiters of groups.
+    return f"""//! {WRITTEN}
+//!
+//! The kinds of words, marks and delimiters of groups.
 
 {mods}
 {uses}"""
@@ -201,7 +211,9 @@ def token_module():
     aliases += [(f"`{text}`", name, f"Mark<kind::{name}, {len(text)}>") for name, text in MARKS + LONG_MARKS]
     aliases += [(signs, name, f"Delimiters<kind::{name}>") for name, _, signs, _ in GROUPS]
     body = "".join(f"\n/// {doc}\npub type {name} = {value};\n" for doc, name, value in aliases)
-    return f"""//! Words, marks and the delimiters of groups, each with a type.
+    return f"""//! {WRITTEN}
+//!
+//! Words, marks and the delimiters of groups, each with a type.
 
 mod characters;
 mod custom;
@@ -221,7 +233,7 @@ pub use word::{{Word, WordKind}};
 def kind_specs(title, kinds, imports, entry):
     uses = "".join(f"use Rattle.syn_tokens.specs.declared.token.kind.{file}.{antt_name(name)}.{{{antt_name(name)} as K_{name}}}\n" for file, name, _, _ in kinds)
     body = "".join(entry(*kind) for kind in kinds)
-    return f"-- {title}\n{imports}{uses}{body}"
+    return f"-- {WRITTEN}\n-- {title}\n{imports}{uses}{body}"
 
 
 def word_specs():
@@ -269,7 +281,8 @@ abbrev pub {snake(name)}_syntax : {name} → Syntax
 def group_specs():
     uses = "".join(f"use Rattle.syn_tokens.specs.declared.token.kind.groups.{name}.{{{name} as K_{name}}}\n" for name, _, _, _ in GROUPS)
     body = "".join(f"\nabbrev pub {name} : Type 0\n{name} = Delimiters K_{name}\n" for name, _, _, _ in GROUPS)
-    return f"""-- Words, marks and the delimiters of groups, as types and as syntax.
+    return f"""-- {WRITTEN}
+-- Words, marks and the delimiters of groups, as types and as syntax.
 use Rattle.syn_tokens.specs.declared.token.delimiters.Delimiters.{{Delimiters}}
 {uses}pub use Rattle.syn_tokens.specs.KindsOfWords.{{{passed_on([kind[0] for _, _, kinds in WORD_FILES for kind in kinds])}}}
 pub use Rattle.syn_tokens.specs.KindsOfMarks.{{{passed_on([name for name, _ in MARKS + LONG_MARKS])}}}
@@ -285,7 +298,7 @@ def antt_name(name):
 
 
 def outputs():
-    """What stands in each file that this script writes."""
+    """The text of each file that this script writes."""
     kind = CRATE / "src/token/kind"
     files = {kind / f"{file}.rt": words(title, kinds) for file, title, kinds in WORD_FILES}
     files[kind / "marks.rt"] = marks("Marks of one character.", MARKS, "OneCharacter")
@@ -301,7 +314,7 @@ def outputs():
 
 def main():
     parser = argparse.ArgumentParser(description=__doc__, formatter_class=argparse.RawDescriptionHelpFormatter)
-    parser.add_argument("--check", action="store_true", help="write nothing, and fail where a file isn't as it would be written")
+    parser.add_argument("--check", action="store_true", help="write nothing, and fail if a file differs from what would be written")
     options = parser.parse_args()
     files = outputs()
     if options.check:

@@ -26,7 +26,7 @@ old text and the new one. What `clause` may say:
     skips by loop-character-preserved        the prover stops at another goal than the clause's own: a loop's invariant, or what
                                              a callee requires; of a table, a function that is not proved (the end of its name),
                                              or a file of proofs, and the lemma there that is refused: one_tree by unions_hold,
-                                             ExamplesOfItems by enum_values
+                                             ItemPlan by item_plan_is
 
 `rt ci` tries the edits of must-fail/ one after another, so there are few; this script tries them only by their names. All others
 are tried many at once: a copy of the crate is changed by all edits that touch bodies of different functions, and of that the

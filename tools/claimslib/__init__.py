@@ -1,4 +1,4 @@
-"""What the public functions of the crates promise: their names with the names of their clauses, as read from the sources."""
+"""The public functions of the crates, with the names of their clauses, read from the sources."""
 
 import re
 from collections import namedtuple
@@ -19,7 +19,7 @@ def plain(name):
 
 
 def owner_of(kind, rest):
-    """What a block belongs to, and the trait that it implements, if it does."""
+    """The type of a block, and the trait that it implements, if any."""
     rest = GENERICS.sub("", rest.strip()).strip()
     if kind == "trait":
         return plain(rest), None

@@ -1,26 +1,26 @@
-"""The texts that are read as a kind: what rows and cases with answers say."""
+"""The texts that are accepted as a kind, by rows and conformance cases."""
 from dataclasses import dataclass
 
 from compare_answers import kind_of, live_cases, row_sections
 from kinds import INNER, KINDS, OTHERS
 
 NAMES = {word: name for word, name, _ in KINDS}
-# The types that are asked about.
+# The types under test.
 TYPES = {*NAMES.values(), *(name for name, _ in OTHERS + INNER)}
-# The questions of rows whose text is read, and those whose second line is a text that is read too.
+# Questions of rows whose first line is accepted, and those whose second line is a text that is accepted too.
 OF_ONE, OF_TWO = {"tree", "print", "canonical", "faults", "parts"}, {"equal", "differs", "alike", "unlike"}
 
 
 @dataclass(frozen=True)
 class Input:
-    """A text that is read as the type of this name."""
+    """A text that is accepted as the type of this name."""
 
     kind: str
     text: str
 
 
 def of_rows(path):
-    """The texts of the rows that are read as types which are asked about."""
+    """Inputs from the rows of the types under test."""
     for heading, texts in row_sections(path):
         question, *kinds = heading.split(" ")
         if "refused" in kinds or question not in OF_ONE | OF_TWO:
@@ -31,12 +31,12 @@ def of_rows(path):
 
 
 def of_cases(path, stage):
-    """The texts of the cases in which the program prints or checks them."""
+    """Inputs from the cases that the program accepts."""
     for case in live_cases(path, stage):
         if case["status"] == 0:
             yield Input(NAMES[kind_of(case["args"])], case["stdin"])
 
 
 def part_of(inputs, number, count):
-    """The inputs of a part, each once: of so many parts the one of this number, from 1."""
+    """The inputs of one of `count` parts, numbered from 1; each once."""
     return list(dict.fromkeys(inputs))[number - 1::count]

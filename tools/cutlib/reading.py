@@ -1,4 +1,4 @@
-"""The other reading of the grammar, which stands beside the repository: what is answered about a stream or a text."""
+"""The oracle, another reading of the grammar beside the repository: its results for a stream or a text."""
 import re
 
 from fuzz_reader import Oracle
@@ -6,12 +6,12 @@ from kinds import KINDS
 
 from .streams import CLOSING, OPENING, is_mark
 
-# The program's word of each type that has one.
+# The program's word for each type that has one.
 WORDS = {name: word for word, name, _ in KINDS}
 
 
 def present(function):
-    """The function, refusing where it gives nothing."""
+    """The function, with an error in place of None."""
     def read(cursor):
         found = function(cursor)
         if found is None:
@@ -21,7 +21,7 @@ def present(function):
 
 
 def of_kind(function, name):
-    """The function, refusing where it gives another kind of nodes."""
+    """The function, with an error in place of another kind of node."""
     def read(cursor):
         found = function(cursor)
         if found.k != name:
@@ -31,7 +31,7 @@ def of_kind(function, name):
 
 
 def parsers(other):
-    """The function of the other reading by which each type is read, by the type's name."""
+    """The oracle's parser of each type, by the type's name."""
     found = {name: other.KINDS[word][0] for name, word in WORDS.items()}
     found |= {"".join(map(str.capitalize, word.split("-"))): function for word, (function, _) in other.API_KINDS.items()}
     return found | {
@@ -48,7 +48,7 @@ def parsers(other):
 
 
 class Reading:
-    """The other reading, at a stage of the grammar."""
+    """The oracle, at a stage of the grammar."""
 
     def __init__(self, folder, stage):
         self.other, self.stage = Oracle(folder).module, stage
@@ -56,7 +56,7 @@ class Reading:
         self.parsers = parsers(self.other)
 
     def words(self, text):
-        """The words of the tokens that the text spells; none where it is refused as text."""
+        """The words of the tokens of the text; None if the lexer refuses it."""
         try:
             return list(self.words_of(self.other.read_tokens(text)))
         except self.other.SynErr:
@@ -75,7 +75,7 @@ class Reading:
                 yield f"{getattr(tree, 'kind', 'Ident')}:{tree.text.encode().hex()}"
 
     def trees(self, words):
-        """The token trees of these words. The span of each token is its place among them."""
+        """The token trees of these words. The span of a token is its index."""
         level, around = [], []
         for at, word in enumerate(words):
             if word in CLOSING:
@@ -97,7 +97,7 @@ class Reading:
         return self.other.Ident(text, at, at + 1) if kind == "Ident" else self.other.Lit(kind, text, at, at + 1)
 
     def print(self, kind, words):
-        """The text that the stream of these words prints as this kind; none where it is refused."""
+        """The print of the stream of these words as this kind; None if it is refused."""
         other, trees = self.other, self.trees(words)
         other.MEMO.clear()
         other.KEEP.clear()
@@ -110,18 +110,18 @@ class Reading:
         return other.token_text(other.flat(tree))
 
     def run(self, kind, text):
-        """How the program ends that prints the bytes as this kind: its status, what it writes, and what it says of a refusal, or none
-        where of that only the form is known."""
+        """How the program ends that prints the bytes as this kind: its status, its output, and its error message, or None if only the form of
+        the message is known."""
         status, output, faults, is_known = self.other.run(["print", WORDS[kind]], text, self.stage)
         return status, output, faults if is_known else None
 
 
 def splits_a_mark(words):
-    """Whether a delimiter of an invisible group stands behind a Joint character."""
+    """Whether a delimiter of an invisible group follows a Joint character."""
     return any(first[0] == "+" and second in "<>" for first, second in zip(words, words[1:]))
 
 
 def is_but_for_empty_generics(left, right):
-    """Whether two prints are the same but for `< >` behind `impl`."""
+    """Whether two prints differ only in `< >` after `impl`."""
     bare = [re.sub(r"\bimpl < > ", "impl ", each) for each in (left, right)]
     return left != right and bare[0] == bare[1]

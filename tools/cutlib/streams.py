@@ -1,13 +1,13 @@
-"""Token streams as lists of words, as the program `cut_streams` reads them, and what is changed of them.
+"""Token streams as lists of words, in the format of the program `cut_streams`, and their changes.
 
-A word is the sign of a group (`<` and `>` of an invisible one), `+` or `-` and a mark's character, which is Joint or Alone, or a kind of tokens, `:` and the hex digits of
-the token's text.
+A word is the delimiter of a group (`<` and `>` of an invisible one); or `+` (Joint) or `-` (Alone) and a punctuation character; or a kind of
+tokens, `:` and the hex digits of the token's text.
 """
 
 VISIBLE = {"(": ")", "{": "}", "[": "]"}
 CLOSING = VISIBLE | {"<": ">"}
 OPENING = {closing: opening for opening, closing in CLOSING.items()}
-# The tree that nothing but raw contents may hold.
+# A tree that only raw contents may hold.
 SIGN = "-@"
 
 
@@ -16,7 +16,7 @@ def is_mark(word):
 
 
 def closed(words):
-    """The words, and behind them the signs that close the groups which are open there."""
+    """The words, followed by the closing delimiters of the open groups."""
     missing = []
     for word in words:
         if word in CLOSING:
@@ -27,7 +27,7 @@ def closed(words):
 
 
 def cuts(words):
-    """The first tokens, none of them to all, where the two signs of a group are one token; what is open there is closed."""
+    """The first N tokens for each N, where the two delimiters of a group count as one; open groups are closed."""
     yield closed([])
     for at, word in enumerate(words):
         if word not in OPENING:
@@ -35,14 +35,14 @@ def cuts(words):
 
 
 def with_sign(words):
-    """With one more tree at the end of each group."""
+    """One more tree at the end of a group, for each group."""
     for at, word in enumerate(words):
         if word in OPENING:
             yield [*words[:at], SIGN, *words[at:]]
 
 
 def pairs(words):
-    """Where each group opens and closes."""
+    """The indices of the delimiters of each group."""
     stack = []
     for at, word in enumerate(words):
         if word in CLOSING:
@@ -52,7 +52,7 @@ def pairs(words):
 
 
 def with_delimiters(words):
-    """With other delimiters of each group."""
+    """Other delimiters of a group, for each group."""
     for start, end in pairs(words):
         for opening in VISIBLE:
             if opening != words[start]:
@@ -60,12 +60,12 @@ def with_delimiters(words):
 
 
 def spaced(words, spacing):
-    """With every mark so: `+` Joint, `-` Alone."""
+    """With this spacing of every punctuation character: `+` Joint, `-` Alone."""
     return [spacing + word[1:] if is_mark(word) else word for word in words]
 
 
 def with_spacings(words):
-    """With every mark Joint, with every mark Alone, and with one mark at a time otherwise than it is; none twice, and none as it is."""
+    """Every punctuation character Joint, every one Alone, and one at a time changed; none twice, and none unchanged."""
     changed = [spaced(words, "+"), spaced(words, "-")]
     for at, word in enumerate(words):
         if is_mark(word):
@@ -77,12 +77,12 @@ def with_spacings(words):
             yield each
 
 
-# Of so many trees beside each other each run is taken; of more, the runs that begin or end with them, and each tree alone.
+# Of at most so many adjacent trees each run is taken; of more, the runs at either end, and each tree alone.
 ALL_RUNS = 7
 
 
 def levels(words):
-    """The places of the words before which a tree begins, of each group and of the whole, each with the place behind the last."""
+    """The indices at which a tree begins, for each group and the whole, each list with the index after the last tree."""
     places, around, found = [], [], []
     for at, word in enumerate(words):
         if word in OPENING:
@@ -98,7 +98,7 @@ def levels(words):
 
 
 def runs(places):
-    """Between which places some of these trees stand: the first, and the one behind the last."""
+    """The runs of these trees: the index of the first, and that after the last."""
     last = len(places) - 1
     for start in range(last):
         for end in range(start + 1, last + 1):
@@ -107,12 +107,12 @@ def runs(places):
 
 
 def with_invisible(words):
-    """With some trees that stand beside each other in an invisible group, or an empty one before some tree or at an end."""
+    """An invisible group around a run of trees, or an empty one before a tree or at an end."""
     for places in levels(words):
         for start, end in [*runs(places), *((place, place) for place in places)]:
             yield [*words[:start], "<", *words[start:end], ">", *words[end:]]
 
 
-# What is changed of each stream, by the name of it.
+# The changes of each stream, by name.
 SWEEPS = {"cuts": cuts, "@": with_sign, "delimiters": with_delimiters, "spacings": with_spacings}
 INVISIBLE = {"invisible": with_invisible}

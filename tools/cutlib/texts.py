@@ -11,7 +11,7 @@ SECONDS = 60
 
 
 def built_library(folder):
-    """The library by which calls fail, built in the folder."""
+    """The preloaded library that makes calls fail, built in the folder."""
     path = Path(folder) / "failing.so"
     subprocess.run(["cc", "-shared", "-fPIC", "-o", path, FAILING], check=True)
     return path
@@ -24,20 +24,20 @@ def beginnings(text):
 
 
 def ran(program, kind, data, environment=None):
-    """The status of the program that prints the bytes as this kind, and the bytes that it writes."""
+    """The status of the program that prints the bytes as this kind, and its output and errors, as bytes."""
     done = subprocess.run([program, "print", WORDS[kind]], input=data, capture_output=True, timeout=SECONDS, env=environment)
     return done.returncode, done.stdout, done.stderr
 
 
 def ended(program, kind, data):
-    """The same, what it writes as text."""
+    """The same, with the output as text."""
     status, output, faults = ran(program, kind, data)
     return status, output.decode(errors="replace"), faults.decode(errors="replace")
 
 
 def verdict(found, wanted):
-    """How a run ended that was to end so: `ok`, `refused`, `empty generics`, or what is wrong in words. Where no refusal is told, any is
-    right."""
+    """Compares how a run ended with how it should: `ok`, `refused`, `empty generics`, or the difference in words. Where no error message is
+    expected, any refusal is right."""
     status, output, faults = found
     if status not in (0, 1) or status != wanted[0]:
         return f"status {status} in place of {wanted[0]}, and {output + faults!r}"
@@ -50,15 +50,15 @@ def verdict(found, wanted):
 
 
 def failures(program, library, kind, data, call):
-    """Runs the program with the first, the second and each further `read` or `write` failing, until a run meets no failure. Returns how
-    many failed, and what was wrong, if something was. A character may be cut: bytes are compared."""
+    """Runs the program with the first, the second and each further `read` or `write` failing, until a run meets no failure. Returns the number
+    of failures, and what was wrong, if anything. Bytes are compared, as a character may be cut."""
     whole = ran(program, kind, data)
     for number in range(1, len(data) + len(whole[1]) + 3):
         status, output, faults = ran(program, kind, data, {"LD_PRELOAD": str(library), "FAILS": f"{call} {number}"})
         if faults != f"{call} failed\n".encode():
             met = number - 1
             return met, "" if met and (status, output, faults) == whole else f"with {call} {number} failing {(status, output, faults)!r}"
-        # what is written stands before what isn't, and nothing is written before all is read
+        # the output is a prefix of the whole output, and empty until all is read
         if status != 1 or not whole[1].startswith(output) or (call == "read" and output):
             return number, f"with {call} {number} failing status {status}, and {output!r}"
     return number, f"{call} fails without an end"

@@ -65,7 +65,7 @@ class Expressions:
 
     def want(self, word):
         if self.peek() != word:
-            raise Fault(f'{self.where}: `{word}` is wanted where `{self.peek() or "the end"}` stands')
+            raise Fault(f'{self.where}: `{word}` is expected at `{self.peek() or "the end"}`')
         self.at += 1
 
     def whole(self):
@@ -249,7 +249,7 @@ class Evaluator:
         definition = self.definitions[name]
         for clause in definition.clauses:
             if len(clause.patterns) != len(arguments):
-                raise Fault(f'{where}: `{name}` wants {len(clause.patterns)} arguments')
+                raise Fault(f'{where}: `{name}` takes {len(clause.patterns)} arguments')
             names = self.match_all(clause.patterns, arguments)
             if names is not None:
                 return self.evaluate(clause.body, names, f'{definition.file}, line {clause.line}')
@@ -284,7 +284,7 @@ class Evaluator:
 
 
 def names_in(expression):
-    """The names that stand in an expression."""
+    """The names in an expression."""
     if isinstance(expression, (list, tuple)):
         own = {expression[1]} if len(expression) == 2 and expression[0] == 'name' else set()
         return own.union(*map(names_in, expression))

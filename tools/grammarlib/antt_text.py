@@ -25,7 +25,7 @@ class Writer:
         return ' '.join([terminal[0], argument] + [str(flag).lower() for flag in terminal[2:]])
 
     def look(self, look, least=0):
-        """A look, in parentheses where `least` (how strongly the context binds) wants them."""
+        """A look, in parentheses where `least` (how strongly the context binds) requires them."""
         if look in self.look_names:
             return self.look_names[look]
         kind = look[0]
@@ -69,7 +69,7 @@ def exports(path):
 
 
 def words(text):
-    """The words that stand in a text of Antt, comments and `use` lines aside."""
+    """The words of a text of Antt, comments and `use` lines aside."""
     lines = [line.split('--')[0] for line in text.split('\n') if not line.startswith('use ')]
     found = set(re.findall(r'[^\s(),{};]+', '\n'.join(lines)))
     for word in list(found):  # a record's or a pair's field: x.0, k.name
@@ -79,7 +79,7 @@ def words(text):
 
 
 def used(names, present):
-    """Of these names those whose words are present; `◌&◌` is used where `&` stands."""
+    """Of these names those whose words are present; `◌&◌` is used where `&` is."""
     return [n for n in names if all(part in present for part in n.split('◌') if part)]
 
 

@@ -20,7 +20,7 @@ class Apart:
         self.starts, self.lookaheads, self.table = starts, starts.lookaheads, starts.table
 
     def openings(self, form):
-        """Forms that together read what this one reads, one step simpler (none: it can't be opened)."""
+        """Forms that together read what this one reads, one step simpler (an empty list if there are none)."""
         kind = form[0]
         if kind == '&':
             rest = form[2]
@@ -59,7 +59,7 @@ class Apart:
                 and not set(starts.first_set(g)) & set(starts.first_set(h)))
 
     def sides(self, form):
-        """A form that turns by what stands next: the look and its two sides."""
+        """A form that branches on the next token: the look and its two sides."""
         if form[0] == 'when':
             return form[1], form[2], form[3]
         if form[0] == 'generics_before':

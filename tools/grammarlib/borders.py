@@ -1,7 +1,7 @@
-"""The borders of a rule: each change of its form (mutants.py) must be told by a worked example of that rule.
+"""The borders of a rule: a worked example of that rule must detect each change of its form (mutants.py).
 
-An example tells a change where the changed table reads it otherwise than the example says. Changes that alter nothing of what is
-read and printed are named, with the reason, in tools/equivalent_mutants.txt. How many borders of a rule have no example yet stands in
+An example detects a change if the changed table reads its text differently than it says. Changes that alter nothing of what is
+read and printed are named, with the reason, in tools/equivalent_mutants.txt. The number of borders of each rule without an example is in
 tools/untold_borders.txt; they may only become fewer.
 """
 from .antt import Fault
@@ -25,7 +25,7 @@ def read_equivalent(path):
         if len(parts) != 3 or not all(parts):
             raise Fault(f'{path.name}, line {number}: a line is `rule | change | reason`')
         if tuple(parts[:2]) in found:
-            raise Fault(f'{path.name}, line {number}: it stands twice')
+            raise Fault(f'{path.name}, line {number}: the same change is listed before')
         found[tuple(parts[:2])] = parts[2]
     return found
 
@@ -45,7 +45,7 @@ def read_untold(path):
 
 def written_untold(counts):
     """The file of such counts."""
-    lines = ['# How many borders of a rule no example tells yet (tools/examples.txt). They may only become fewer: tools/grammar.py --check fails',
+    lines = ['# How many borders of a rule no example detects yet (tools/examples.txt). They may only become fewer: tools/grammar.py --check fails',
              '# where a rule has more. tools/grammar.py --lower writes those that became fewer.']
     return '\n'.join(lines + [f'{rule} {n}' for rule, n in counts.items() if n]) + '\n'
 
@@ -91,7 +91,7 @@ class Borders:
         return WrongReader(self.lookaheads, {**self.table, mutant.rule: mutant.form})
 
     def told(self, mutant):
-        """The name of an example of the rule that tells this change, or None."""
+        """The name of an example of the rule that detects this change, or None."""
         reader = self.reader(mutant)
         return next((p.name for p in self.examples[mutant.rule] if not p.agrees(reader)), None)
 
@@ -105,7 +105,7 @@ class Borders:
 
     def lacking(self, rules=None):
         """What tools/examples.txt and the list of equivalent changes lack of these rules, else of all, one line each. Of a rule that may
-        lack examples of some borders none is told, where it lacks no more."""
+        lack examples of some borders none is listed, unless it lacks more."""
         lines, known, rules = [], set(), rules or list(self.table)
         for rule in rules:
             bare = []
@@ -113,9 +113,9 @@ class Borders:
                 known.add((rule, mutant.change))
                 listed, told = (rule, mutant.change) in self.equivalent, self.told(mutant)
                 if listed and told:
-                    lines.append(f'`{rule}`: the change "{mutant.change}" is listed as one that alters nothing, but the example `{told}` tells it')
+                    lines.append(f'`{rule}`: the change "{mutant.change}" is listed as one that alters nothing, but the example `{told}` detects it')
                 elif not listed and not told:
-                    bare.append(f'`{rule}`: no example tells the table from one in which {mutant.change}')
+                    bare.append(f'`{rule}`: no example detects the change "{mutant.change}"')
             self.counts[rule] = len(bare)
             lines += self.too_many(rule, bare)
         return lines + [f'`{rule}`: "{change}" is listed as a change that alters nothing, but is no change of this rule'

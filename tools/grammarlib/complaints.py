@@ -1,4 +1,4 @@
-"""The tests that the laws want of a table, with complaints that say what is wrong and where to look first.
+"""The tests that the laws require of a table, with complaints that say what is wrong and where to look first.
 
 They are the tests of proofs/Reprint.antt (`fine`), proofs/Unique.antt (`sound`) and proofs/Low.antt; the checker computes them again.
 """
@@ -8,25 +8,25 @@ from .lookaheads import ENDED, mentions_fact, unique
 from .summaries import Summary, Summaries
 
 EXPLAINED = {
-    'SEAM': 'a part asks what stands behind it, and the answer may differ in the print, where the next part begins with another terminal. '
-            'First: which facts does the token before it tell (plainly, telling, asking)? Then: does somebody ask who needn\'t?',
+    'SEAM': 'a part tests what follows it, and the result may differ in the print, where the next part begins with another terminal. '
+            'First: which facts does the token before it report (plainly, telling, asking)? Then: is a look tested that isn\'t needed?',
     'HALT': 'an optional part was absent because a look was false; in the print of what follows it may be true. '
-            'First: let the token that follows tell that fact (telling, asking); then: is the look too wide?',
-    'SHUN': 'a part that vanishes from the print asks that something doesn\'t follow, but that may follow. Narrow the look of the vanishing part.',
-    'GONE': 'what follows may vanish from the print, and a look before it asks for it. Ask for what surely stays, or don\'t let it vanish.',
-    'KEPT': 'a `when` may turn the other way in the print, because the terminal that it asks for is printed otherwise. '
-            'Let the form keep its first token, or ask by a look that both terminals answer alike.',
-    'END': 'the content of a group may end where a vanishing part asks that nothing of the kind follows.',
-    'ENDED': 'a rule\'s last part asks that the stream doesn\'t end. Every rule must be readable alone.',
+            'First: let the token that follows report that fact (telling, asking); then: is the look too wide?',
+    'SHUN': 'a part that vanishes from the print requires that something doesn\'t follow, but that may follow. Narrow the look of the vanishing part.',
+    'GONE': 'what follows may vanish from the print, and a look before it tests it. Test what surely stays, or don\'t let it vanish.',
+    'KEPT': 'a `when` may turn the other way in the print, because the terminal that it tests is printed otherwise. '
+            'Let the form keep its first token, or use a look that holds of both terminals or of neither.',
+    'END': 'the content of a group may end where a vanishing part requires that nothing of the kind follows.',
+    'ENDED': 'a rule\'s last part requires that the stream doesn\'t end. Every rule must be readable alone.',
     'SUPPLIED': 'the name before a supplied `_ :` may read or print nothing.',
     'WILD': 'a supplied `_` would be printed as something that is taken for a nameless form again.',
     'NAMED': 'a written name may be printed as something that is taken for a nameless form.',
-    'OPEN': 'a captured part must end by itself (with a group or a mark that asks nothing) and read at least one token.',
+    'OPEN': 'a captured part must end by itself (with a group or a mark that tests nothing) and read at least one token.',
     'LEAD': 'each member of such generics must begin a parameter in the print too, and what follows them must read and print something and end by itself.',
     'LIST': 'a member of a list may read or print nothing, or begins with `>`.',
-    'MEMBER': 'a member of a list asks what stands behind it, and `,` and `>` answer differently.',
+    'MEMBER': 'a member of a list tests what follows it, and the result differs for `,` and `>`.',
     'UNION': 'two alternatives of a union may read the same stream. Let one turn away where the other reads (`when look then never else ..`), '
-             'or make them one rule with a choice by what stands next.',
+             'or make them one rule with a choice by the next token.',
     'LEFT': 'a rule calls itself before it has read anything. Write the repetition to the right: an operand, and then the others.',
 }
 
@@ -60,7 +60,7 @@ class Tests:
 
     def run(self):
         summaries = self.summaries
-        while summaries.grown:  # the tests may ask for the facts of further rules
+        while summaries.grown:  # the tests may need the facts of further rules
             summaries.solve()
             self.found = []
             for rule, told in list(summaries.said):
@@ -100,7 +100,7 @@ class Tests:
         self.seam(rule, first, second, self.starts.never_follow([], form[1]))
 
     def seam(self, rule, first, second, never_follow):
-        """What the first form asks of what follows it, of the prints of the second."""
+        """The conditions of the first form on what follows it, of the prints of the second."""
         lookaheads = self.lookaheads
         excluded = lambda terminal: any(lookaheads.must(c, terminal) for c in never_follow)
         for a, b, told in second.moves:

@@ -1,7 +1,7 @@
-"""Of which rules what was read in front of a rest is read where that rest is cut off: the tests of proofs/Cut.antt.
+"""The rules that read the same where the rest after them is cut off: the tests of proofs/Cut.antt.
 
-Where the rest goes, each of the other tokens keeps its terminal, and only their facts may change. So a look keeps its answer, or was true and
-becomes false; only where a form was chosen because the look was true is more asked.
+Where the rest is cut off, each token before it keeps its terminal, and only its facts may change. So a look stays as it was, or was true and
+becomes false; the tests are stricter only where a form was chosen because the look was true.
 """
 from .lookaheads import ENDED, mentions_fact, parts
 
@@ -22,7 +22,7 @@ def fades(look):
 
 
 def near(look):
-    """It asks for no facts but near ones."""
+    """It tests no facts but near ones."""
     return look[1][0] in NEAR if look[0] == 'ahead' else all(map(near, parts(look)))
 
 
@@ -51,7 +51,7 @@ class Cuts:
         self.cut = self.greatest(self.cuts)
 
     def greatest(self, test):
-        """The most rules of which each passes the test, where those are taken to pass it."""
+        """The largest set of rules that all pass the test, where the test takes the set for granted."""
         good = set(self.table)
         while True:
             fewer = {rule for rule in good if test(good, self.table[rule])}

@@ -1,6 +1,6 @@
 """Worked examples as theorems: what a rule reads and prints, what it leaves, and what it refuses, computed by the checker.
 
-tools/examples.txt has one line for each subject, which names the file of the theorems behind it, and one line an example:
+tools/examples.txt has one line for each subject, which names the file of the theorems after it, and one line for each example:
 
     subject Name: words
     name    rule    text  =>  print             the whole text is read, and printed so
@@ -8,7 +8,7 @@ tools/examples.txt has one line for each subject, which names the file of the th
     name    rule    text  =>  refused           the whole text isn't read (but perhaps a beginning of it)
     name    rule    text  =>  unread            no beginning of it is read either
 
-A mark `=>` or `..` in a text stands directly before what follows it.
+A mark `=>` or `..` that is part of a text has no space after it.
 """
 import re
 from dataclasses import dataclass
@@ -52,13 +52,13 @@ def parse(path, rules):
             raise Fault(f'{where}: an example is `name rule text => print`')
         name, rule, text, answer = parts[1], parts[2], parts[3] or '', parts[4] or ''
         if not subject:
-            raise Fault(f'{where}: no subject stands above the example')
+            raise Fault(f'{where}: there is no subject above the example')
         if rule not in rules:
             raise Fault(f'{where}: no rule is named `{rule}`')
         if name in rules:
             raise Fault(f'{where}: `{name}` is the name of a rule; give the example another')
         if any(e.name == name for e in found):
-            raise Fault(f'{where}: the name `{name}` stands twice')
+            raise Fault(f'{where}: the name `{name}` is used twice')
         if answer.strip() in ('refused', 'unread'):
             found.append(Example(subject, name, rule, text, unread=answer.strip() == 'unread'))
             continue
@@ -68,7 +68,7 @@ def parse(path, rules):
 
 
 def parts(form):
-    """A form and all that stand in it."""
+    """A form and all forms in it."""
     if isinstance(form, tuple) and form:
         if isinstance(form[0], str):
             yield form

@@ -1,7 +1,7 @@
-"""Of which rules what is shown (all tokens in their order) is read again: the tests of proofs/Shows.antt.
+"""The rules whose shown tokens (all tokens of a value in their order) are read again: the tests of proofs/Shows.antt.
 
-The full form of a form reads the same, and prints all that it read but what is never printed. Its test is that of any form, by summaries of
-the full forms, so what is shown of a rule is read where the rule's full form passes, and those of all rules that it names.
+The full form of a form reads the same and prints everything that it read, except parts that are never printed. The tests of forms apply to
+full forms too, with their summaries. So the shown tokens of a rule are read if its full form and those of all rules that it names pass.
 """
 import copy
 
@@ -39,14 +39,14 @@ def full(lookaheads, form):
 
 
 def with_forms(starts, table):
-    """The same beginnings and ends of rules, over these forms of theirs."""
+    """The same beginnings and ends of rules, with the forms of this table."""
     other = copy.copy(starts)
     other.table = table
     return other
 
 
 class Shown:
-    """The rules of which what is shown is read (`rules`: they pass, and so do all that they name), and the tests of all rules with the full
+    """The rules whose shown tokens are read (`rules`: they and all rules that they name pass), and the tests of all rules with the full
     forms of those."""
 
     def __init__(self, tests):

@@ -1,8 +1,8 @@
-"""What stands at the front of a stream: terminals, the facts that a lookahead tells, and looks (as specs/Tokens.antt defines them).
+"""The front of a stream: terminals, the facts of a lookahead, and looks (as specs/Tokens.antt defines them).
 
 A terminal is ('Ended',), ('Name',), ('Word', text), ('Punctuation', text), ('Literal', kind) or ('Delimited', delimiter, empty), where
 `empty` says that it is an invisible group without content.
-A lookahead is a terminal and the facts that it tells.
+A lookahead is a terminal and its facts.
 """
 
 from functools import lru_cache
@@ -119,7 +119,7 @@ class Lookaheads:
     # NOTES
 
     def asked(self, terminal):
-        """What a token with this terminal asks of the lookahead behind it: pairs of a look and the fact that it stands for."""
+        """The conditions of a token with this terminal on the lookahead after it: pairs of a look and the fact that it sets."""
         if terminal not in self.asked_of:
             value = terminal if terminal[0] not in ('Word', 'Punctuation') else (terminal[0], tuple(terminal[1].encode()))
             self.asked_of[terminal] = [(p[1], p[2]) for p in self.source.value('asked', value)]
@@ -176,7 +176,7 @@ class Lookaheads:
         return [('Punctuation', m) for m in [self.lifetime_mark] + self.long_marks if m.startswith(text)]
 
     def mark_first_set(self, text):
-        """The terminals that a mark may be seen with, by what stands behind it."""
+        """The terminals that a mark may be seen with, depending on what follows it."""
         if len(text) == 1:
             return [('Punctuation', text)] + self.beginning(text)
         return [self.join(text[0], f) for f in self.mark_first_set(text[1:])]
@@ -185,10 +185,10 @@ class Lookaheads:
         """The terminal of a mark that is seen whole, as it is printed."""
         return ('Punctuation', text) if len(text) == 1 else self.join(text[0], self.mark_terminal(text[1:]))
 
-    # HOW A LOOK IS ANSWERED IN SOURCE AND PRINT
+    # A LOOK IN SOURCE AND PRINT
 
     def deaf(self, character, look):
-        """No mark that meets the look goes on a mark from this character."""
+        """No mark that meets the look continues a mark from this character."""
         kind = look[0]
         if kind == 'at_mark':
             return not any(mark.startswith(character + look[1][0]) for mark in self.long_marks)
@@ -204,7 +204,7 @@ class Lookaheads:
         return (self.must(look, a) and self.must(look, b)) or not (self.may(look, a) or self.may(look, b))
 
     def agree(self, look, a, b, told):
-        """Two lookaheads with these terminals, which tell these facts alike, answer the look alike."""
+        """The look holds of both or of neither of two lookaheads with these terminals that agree in these facts."""
         if look[0] == 'ahead':
             return look[1] in told
         return self.decided(look, a, b) or (look[0] in JOINED and all(self.agree(x, a, b, told) for x in parts(look)))
@@ -214,7 +214,7 @@ class Lookaheads:
         return self.must(look, a) or not self.may(look, b) or self.agree(look, a, b, told)
 
     def surely(self, asks, after, look, terminal):
-        """A lookahead with this terminal meets the look, where one of the terminals `after` stands behind it."""
+        """A lookahead with this terminal meets the look, where one of the terminals `after` follows it."""
         kind = look[0]
         if kind == 'ahead':
             return False
@@ -227,7 +227,7 @@ class Lookaheads:
         return self.must(look, terminal)
 
     def hardly(self, asks, after, look, terminal):
-        """A lookahead with this terminal doesn't meet the look, where one of the terminals `after` stands behind it."""
+        """A lookahead with this terminal doesn't meet the look, where one of the terminals `after` follows it."""
         kind = look[0]
         if kind == 'ahead':
             return all(n != look[1] or not any(self.may(c, e) for e in after) for c, n in asks)

@@ -1,7 +1,7 @@
-"""Wrong tables: of each rule the forms that differ from its own by one change, each with a sentence that tells the change.
+"""Wrong tables: for each rule the forms that differ from its own by one change, each with a sentence that describes the change.
 
 What a change may be: a part left out, optional, twice, or again at another place; an optional part required; the two ways of a choice
-exchanged; a condition that asks for less or for something else; a word, a mark or a pair of delimiters that may also be another one;
+exchanged; a condition that tests less or something else; a word, a mark or a pair of delimiters that may also be another one;
 a name that may be a keyword; a group whose content isn't read to its end, or may be empty.
 """
 from collections import Counter
@@ -13,7 +13,7 @@ from .starts import LOOKS, Starts
 from .tokens import stream
 
 DELIMITERS = {'Paren': '( )', 'Brace': '{ }', 'Bracket': '[ ]'}
-# keywords that stand where names do, and one that doesn't
+# keywords that may take the place of names, and one that may not
 PATH_WORDS = ['self', 'Self', 'super', 'crate']
 KEYWORDS = PATH_WORDS + ['_', 'fn']
 # marks that are easily taken for one another
@@ -40,14 +40,14 @@ def reads_nothing(form):
 
 
 def children(form):
-    """The places in a form at which other forms stand."""
+    """The places of the forms directly in a form."""
     if form[0] in ('token', 'mark', 'rule', 'one_of', 'raw', 'rest_after', 'inside'):
         return [2] if form[0] == 'inside' else []
     return [n for n in range(1, len(form)) if is_form(form[n]) and not (form[0] in ('such', 'shaped', 'supplied') and n == 1)]
 
 
 def places(form, path=()):
-    """Each form that stands in this one, itself too, with the way to it."""
+    """This form and each form in it, with the path to it."""
     yield path, form
     for n in children(form):
         yield from places(form[n], path + (n,))
@@ -127,7 +127,7 @@ class Mutants:
         return self.distinct(rule, self.changes(self.table[rule]))
 
     def of_facts(self, rule):
-        """The changes of what the rule's tokens promise to tell: they alter nothing that is read, but a law may refuse them."""
+        """The changes of the facts that the rule's tokens promise: they alter nothing that is read, but a law may refuse them."""
         form = self.table[rule]
         quiet = {'token': (), 'mark': False}
         return self.distinct(rule, ((f'{self.name(part)} promises no facts', put(form, path, (part[0], quiet[part[0]], part[2])))
@@ -160,7 +160,7 @@ class Mutants:
                 yield change, put(form, path, sequence(new))
 
     def guard(self, form, path):
-        """The terminals with which what stands at this place may begin, where a choice has seen to it; else None."""
+        """The terminals with which the form at this place may begin, where a choice has tested for them; else None."""
         above = self.above(form, path)
         while above and (above[0] == 'shaped' or (above[0] == '&' and path[-1] == 1)):
             path = path[:-1]
@@ -170,7 +170,7 @@ class Mutants:
         return {f for f in self.terminals() if self.lookaheads.may(above[1], f)}
 
     def above(self, form, path):
-        """The form in which what stands at this place is a part."""
+        """The form of which the form at this place is a part."""
         return next((f for p, f in places(form) if path and p == path[:-1]), None)
 
     def of_members(self, parts, guard):
@@ -185,12 +185,12 @@ class Mutants:
             if part[0] == 'when' and part[2] == NEVER:
                 continue  # a refusal
             if not self.is_idle_behind(before + [part], part):
-                yield f'{name} stands twice', before + [part, part] + behind
+                yield f'{name} occurs twice', before + [part, part] + behind
             for place in [p for p in range(len(parts) + 1) if p != n]:
                 if place == 0 and guard is not None and not guard & first_set or self.is_idle_behind(parts[:place], part):
                     continue
                 where = f'before {self.name(parts[place])}' if place < len(parts) else 'at the end'
-                yield f'{name} may stand again {where}', parts[:place] + [self.optional(part)] + parts[place:]
+                yield f'{name} may occur again {where}', parts[:place] + [self.optional(part)] + parts[place:]
 
     def optional(self, part):
         if self.starts.nullable(part):
@@ -198,12 +198,12 @@ class Mutants:
         return ('when', self.first(part), part, EMPTY)
 
     def is_idle_behind(self, before, part):
-        """What the optional part begins with never stands behind these."""
+        """The optional part never begins after these."""
         made = self.optional(part)
         return bool(before) and made[0] == 'when' and made[3] == EMPTY and made[1] in self.starts.never_follow([], sequence(before))
 
     def first(self, part):
-        """What the part begins with stands next."""
+        """The look that holds where the part begins."""
         made = {'Name': lambda f: ('at_name',), 'Word': lambda f: ('at_word', f[1]), 'Punctuation': lambda f: ('at_mark', f[1]),
                 'Literal': lambda f: ('at_literal', f[1]), 'Delimited': lambda f: ('at_empty_group',) if f[2] else ('at_group', f[1])}
         return any_of([made[f[0]](f) for f in self.starts.first_set(part)] or [('ended',)])
@@ -215,7 +215,7 @@ class Mutants:
         if kind == 'when':
             yield from self.of_choice(part)
         elif kind == 'vanishing':
-            yield f'{self.name(part)} always stands there', part[3]
+            yield f'{self.name(part)} is always there', part[3]
             for change, look in self.of_look(part[2], ()):
                 yield change, part[:2] + (look,) + part[3:]
         elif kind == 'inside':
@@ -223,7 +223,7 @@ class Mutants:
             yield f'{self.name(part)} may hold anything', ('raw', part[1])
             if not self.reads_nothing(part[2]):
                 yield f'{self.name(part)} may be empty', ('inside', part[1], ('when', ('ended',), EMPTY, part[2]))
-            yield f'{self.name(part)} stands without its delimiters', part[2]
+            yield f'{self.name(part)} has no delimiters', part[2]
         elif kind == 'one_of':
             for n, rule in enumerate(part[1]):
                 yield f'no {rule[0]}', ('one_of', part[1][:n] + part[1][n + 1:])
@@ -264,7 +264,7 @@ class Mutants:
         kind = look[0]
         if kind == 'ended':
             for text in marks:
-                yield f'where `{text}` stands too', either(look, ('at_mark', text))
+                yield f'where `{text}` is next too', either(look, ('at_mark', text))
         if kind in JOINED:
             yield f'where only {self.look_name(look[1])}', look[1]
             if kind != 'but_not':
@@ -272,17 +272,17 @@ class Mutants:
         if kind == 'at_mark':
             longer = [m for m in self.lookaheads.long_marks if m.startswith(look[1]) and m != look[1]]
             for text in [look[1][:-1]] * (len(look[1]) > 1) + longer[:2]:
-                yield f'where `{text}` stands and not `{look[1]}`', ('at_mark', text)
+                yield f'where `{text}` is next and not `{look[1]}`', ('at_mark', text)
         if kind == 'at_group':
             for other in DELIMITERS:
                 if (other,) != look[1]:
-                    yield f'where {DELIMITERS[other]} stands too', either(look, ('at_group', (other,)))
+                    yield f'where {DELIMITERS[other]} is next too', either(look, ('at_group', (other,)))
         if kind == 'at_empty_group':
-            yield 'where an invisible group with content stands too', ('at_group', INVISIBLE)
+            yield 'where an invisible group with content is next too', ('at_group', INVISIBLE)
         if kind in ('at_word', 'at_mark', 'at_name'):
-            yield 'where nothing stands too', either(look, ('ended',))
+            yield 'at the end too', either(look, ('ended',))
         if kind == 'at_word':
-            yield f'where a name stands too', either(look, ('at_name',))
+            yield f'where a name is next too', either(look, ('at_name',))
 
     def terminals(self):
         signs = list("~!@#$%^&*-=+|;:,<.>/?'") + self.lookaheads.long_marks
@@ -299,7 +299,7 @@ class Mutants:
         return not any(f in starts.first_set(yes) or f in starts.first_set(other) for f in differ)
 
     def may_differ(self, look, new, terminal):
-        """Lookaheads with this terminal may answer the two conditions differently."""
+        """The two conditions may differ for lookaheads with this terminal."""
         lookaheads, kind = self.lookaheads, look[0]
         if look == new:
             return False
@@ -406,7 +406,7 @@ class Mutants:
                 yield f'{self.name(part)} may also be a literal', put(form, path, ('either', part, part[:2] + (('literal_of', (('Int',), ('Str',))),)))
 
     def comes_there(self, form, path):
-        """Whether a terminal may come to the token at this place: not where a choice in whose first way it stands first has seen to it."""
+        """Whether the token at this place may be tried on a terminal: not where a choice that begins with the token has tested for it."""
         guard = self.guard(form, path)
         return lambda terminal: guard is None or terminal in guard
 

@@ -1,7 +1,7 @@
-"""The plans of unions, as the specifications have them, without their values: trees of what is read, what turns and how it ends.
+"""The plans of unions, as in the specifications but without values: trees of what is read, where it branches and how it ends.
 
 A plan is a tuple: ('reads', form, plan), ('apart', form, plan) (the same, of which no form is made with what follows), ('turns', look, plan, plan), ('tests', test, plan, plan), ('ends',), ('done',), ('fails',),
-('then', plan, form) (a plan and a form behind it), ('lists', plan) (generics of an impl, and what follows), and ('self', plan) (the self
+('then', plan, form) (a plan and a form after it), ('lists', plan) (generics of an impl, and what follows), and ('self', plan) (the self
 type of an impl, and what follows)."""
 import re
 
@@ -121,7 +121,7 @@ class Reader:
         return self.plans.call(word, arguments, {})
 
     def argument(self):
-        """A place, a plan, a function to plans, or a value, of which nothing is kept."""
+        """A place, a plan, a function to plans, or a value (dropped)."""
         begin = self.at
         words = self.skip()
         inner = words[1:-1] if words[0] == '(' else words
@@ -237,7 +237,7 @@ def both(parts):
 
 
 class Values:
-    """What the values at a plan's ends are made of: pieces that were read, one behind the other. A name means its parts and its text."""
+    """What the values at a plan's ends are made of: pieces that were read, one after the other. A name means its parts and its text."""
 
     def __init__(self, names):
         self.names = names
@@ -283,7 +283,7 @@ class Values:
 
 
 class Prover(Reader):
-    """Reads a plan with its values: ('reads', form, plan, number), ('ends', parts, text), ('impl', parts, texts) (an impl behind its word)."""
+    """Reads a plan with its values: ('reads', form, plan, number), ('ends', parts, text), ('impl', parts, texts) (an impl after its word)."""
     count = 0
 
     def plan(self):
@@ -337,7 +337,7 @@ def parts_text(it):
 
 
 def behind(parts, piece):
-    """These parts, and a piece behind them."""
+    """These parts, and a piece after them."""
     return both([*(parts_in(parts)), piece])
 
 
@@ -388,7 +388,7 @@ class Proofs:
         return f'(λ {one}. {first}, λ {other}. {of(plan[3], at)})'
 
     def clause(self, plan, at):
-        """A type alias from its first where clause on: it may be kept behind it, or stands alone."""
+        """A type alias from its first where clause on: it may be verbatim after it, or ends there."""
         name, equals = ('clause_meets', plan[2][2]) if plan[2][0] == 'turns' else ('alone_clause_meets', plan[2])
         kind, clause = equals[2], equals[2][2]
         end = clause[2][2]

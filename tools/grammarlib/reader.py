@@ -42,7 +42,7 @@ class Reader:
         return lookaheads.group_lookahead((token.delimiter,), self.lookahead(here.content()))
 
     def sees(self, look, here):
-        """The look holds of what stands next. Each stream keeps its answers, with the looks, since it is read by many tables."""
+        """The look holds of the next token. Each stream caches the results by look, since many tables read it."""
         known = here.known_looks.get(id(look))
         if known is None:
             known = here.known_looks[id(look)] = look, self.lookaheads.answers(look, self.lookahead(here))
@@ -268,7 +268,7 @@ def has_part(rule, tree):
 
 
 def wheres(tree):
-    """How often the word `where` stands in it, not counting lifetimes, groups, lists in `< >` and what is never printed."""
+    """How often the word `where` occurs in it, not counting lifetimes, groups, lists in `< >` and what is never printed."""
     kind = tree[0]
     if kind == 'token':
         return int(tree[1] == Ident('where'))

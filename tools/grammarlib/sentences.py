@@ -100,7 +100,7 @@ class Sentences:
         return generics + (self.of(form[3], depth) if kind == 'generics_before' else [])
 
     def leaf(self, form):
-        """Of a form that no other form stands in."""
+        """Of a form that contains no other form."""
         kind, r = form[0], self.random
         if kind == 'token':
             return [self.token(r.choice(self.lookaheads.terminals(form[2])))]

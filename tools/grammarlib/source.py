@@ -50,14 +50,14 @@ class Source:
     def refuse_doubles(self, clauses):
         for place, rule in enumerate(self.rules):
             if rule in self.rules[:place]:
-                raise antt.Fault(f'specs/Table.antt, line {clauses[place].line}: the rule `{rule}` stands in the table twice')
+                raise antt.Fault(f'specs/Table.antt, line {clauses[place].line}: the rule `{rule}` is in the table twice')
 
     def form(self, clause):
         names = {k: (k,) for k in self.rules}
         return antt.simple(self.evaluator.evaluate(clause.body, names, f'specs/Table.antt, line {clause.line}'))
 
     def names_self_type(self, rule):
-        """specs/SelfTypes.antt lists the rule (its constructors are the rules, so the list is read as it stands)."""
+        """specs/SelfTypes.antt lists the rule (its constructors are the rules, so the list is read as written)."""
         body = self.definitions['self_types'].clauses[0].body
         return rule in antt.names_in(body)
 

@@ -1,4 +1,4 @@
-"""What each rule begins with, whether it may read nothing, whether it ends by itself, and what never stands behind it.
+"""What each rule begins with, whether it may read nothing, whether it ends by itself, and what never follows it.
 
 These are the functions of proofs/FirstSets.antt, proofs/Extend.antt and proofs/NeverFollow.antt, computed for all rules at once.
 """
@@ -8,12 +8,12 @@ LOOKS = ('at_word', 'at_mark', 'ended', 'at_name', 'at_literal', 'at_group', 'at
 
 
 def opt_generics(lookaheads, x, y):
-    """A list in `< >` where generics stand next, or nothing."""
+    """A list in `< >` where generics are next, or nothing."""
     return ('when', lookaheads.at_generics, ('ordered', x, y), ('empty',))
 
 
 def looks_of(form):
-    """The conditions that stand in a form."""
+    """The conditions in a form."""
     found = [form[1]] if form[0] == 'when' else [form[2]] if form[0] == 'vanishing' else []
     for part in form[1:]:
         if isinstance(part, tuple) and part and isinstance(part[0], str) and part[0] not in LOOKS and form[0] != 'token':
@@ -123,7 +123,7 @@ class Starts:
         return kind == 'captured' and self.closes(form[1])
 
     def never_follow(self, known, form):
-        """Looks that what stands behind the form never meets (`known`: those that hold where it reads nothing)."""
+        """Looks that never hold of what follows the form (`known`: those that hold where it reads nothing)."""
         kind = form[0]
         if kind in ('empty', 'unshown'):
             return known

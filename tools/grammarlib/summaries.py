@@ -1,12 +1,12 @@
 """The summary of each rule: how what it prints may differ, at its front and its end, from what it read (proofs/Summaries.antt).
 
 stays   terminals that begin what was read and what is printed alike
-moves   a terminal that began what was read, the one that begins the print, and the facts that both tell alike
+moves   a terminal that began what was read, the one that begins the print, and the facts that both share
 passes  the form may read nothing
 gone    terminals that began what was read where nothing is printed
-ends    looks that the form asks of what follows it, answered alike in source and print
+ends    looks that the form tests of what follows it, with the same result in source and print
 halts   looks that are false of what follows in the source, and must be false in the print
-shuns   looks that no lookahead behind the print may meet
+shuns   looks that no lookahead after the print may meet
 """
 from dataclasses import dataclass, field
 
@@ -45,12 +45,12 @@ class Summary:
 
 
 class Summaries:
-    """Two summaries a rule: one where somebody asks for the facts of its lookahead, and one where nobody does."""
+    """Two summaries for each rule: one where the facts of its lookahead are tested, and one where they aren't."""
 
     def __init__(self, starts):
         self.starts, self.lookaheads, self.table = starts, starts.lookaheads, starts.table
         self.said = {(k, False): Summary() for k in self.table}
-        self.grown = True  # a summary was asked for that isn't solved yet
+        self.grown = True  # a summary was requested that isn't solved yet
         self.asked_for = set()
 
     def solve(self):
@@ -77,11 +77,11 @@ class Summaries:
         return self.said[rule, told]
 
     def heeds(self, told, summary):
-        """Somebody asks for the facts of what stands behind a form with this summary."""
+        """The facts of what follows a form with this summary are tested."""
         return (told and summary.nullable) or any(mentions_fact(c) for c in summary.ends + summary.halts + summary.shuns)
 
     def summary(self, form, told=False):
-        """The summary of a form (`told`: somebody asks for the facts of its lookahead)."""
+        """The summary of a form (`told`: the facts of its lookahead are tested)."""
         method = self.pair_summary if form[0] == '&' else getattr(self, f'{form[0]}_summary')
         return method(form, told)
 
@@ -140,7 +140,7 @@ class Summaries:
         return summary
 
     def summary_of_mark(self, asking, text):
-        """A mark tells what its last character asks, if it is of one character, or of two and seen whole."""
+        """A mark reports what its last character tests, if it is of one character, or of two and seen whole."""
         lookaheads, terminal = self.lookaheads, self.lookaheads.mark_terminal(text)
         last = lookaheads.asked(('Punctuation', text[-1])) if len(text) <= 2 else []
         quiet = not any(lookaheads.asked(('Punctuation', c)) for c in text)
@@ -151,7 +151,7 @@ class Summaries:
                      ends=[c for c, _ in last] if asking else [])
 
     def told_of(self, asking, text, terminal, last):
-        """Facts that a mark of one character tells neither where a longer mark is seen in the source nor in the print."""
+        """Facts that a mark of one character has neither where a longer mark is seen in the source nor in the print."""
         longer = len(text) == 1 and len(terminal[1]) > 1 and text != ':'
         still = asking and longer and all(self.lookaheads.deaf(text, c) for c, _ in last)
         return tuple(n for _, n in last) if still else ()
@@ -171,9 +171,9 @@ class Summaries:
             second.shuns + (first.shuns if thin else []) + (first.ends + first.halts if second.gone else []))
 
     def guards(self, never_follow, looks):
-        """What a form asks of what stands behind the next one, where that one reads nothing.
+        """The conditions of a form on what follows the next one, where that one reads nothing.
 
-        It is asked no more than where the next one's own halts (`never_follow`) are false."""
+        They are tested only where the next one's own halts (`never_follow`) are false."""
         guarded = []
         for look in looks:
             for off in never_follow:
@@ -210,7 +210,7 @@ class Summaries:
         return not summary.gone and ENDED not in summary.prints() + [a for a, b, told in summary.moves]
 
     def steady(self, looks, summary):
-        """The looks are answered alike of what the form reads and of what it prints."""
+        """The looks give the same result for what the form reads and for what it prints."""
         lookaheads = self.lookaheads
         return (all(lookaheads.agree(c, *x) for c in looks for x in summary.moves)
                 and not any(lookaheads.may(c, a) for c in looks for a in summary.gone + [ENDED]))
@@ -231,7 +231,7 @@ class Summaries:
         return ([WILD] if WILD in summary.stays else []) + [b for a, b, told in summary.moves if a == WILD]
 
     def colon_summary(self):
-        """The colon behind a supplied `_`."""
+        """The colon after a supplied `_`."""
         summary = self.summary_of_mark(False, ':')
         summary.moves = summary.moves + [(ENDED, self.lookaheads.mark_terminal(':'), ())]
         return summary

@@ -51,7 +51,7 @@ class Stream:
         self.known_lookahead, self.known_looks, self.known_content = None, {}, None
 
     def content(self):
-        """The content of the group that stands first."""
+        """The content of the first tree, a group."""
         if self.known_content is None:
             self.known_content = stream(self.token.content)
         return self.known_content
@@ -78,7 +78,7 @@ def mark(text, spans=None):
 
 
 def shown(trees):
-    """The text of token trees: a space behind each but a Joint character."""
+    """The text of token trees: a space after each but a Joint character."""
     text = ''
     for tree in trees:
         if isinstance(tree, Group):

@@ -66,20 +66,20 @@ class Files:
                 + 'pub back : (k : Rule) → at_place rules (place k) ≡ k\n'
                 + self.lines(lambda k: f'back {k} = refl'))
         modules = [('Rattle.std.specs.Prelude', PRELUDE)] + self.specs('Rules')
-        return self.file('Rules are told apart by their numbers.', modules, body)
+        return self.file('Rules are distinguished by their numbers.', modules, body)
 
     def cut_off(self, rule):
-        """What is shown of it is read before the same rest, and that rest may be cut off."""
+        """Its shown tokens are read before the same rest, and that rest may be cut off."""
         return not self.shown_said[rule, False].shuns and rule in self.cuts.cut and rule in self.cuts.spaced
 
     def stands_alone(self, rule):
-        """It asks nothing of what follows it that the end might answer otherwise, or that may be cut off."""
+        """It tests nothing of what follows it that differs at the end, or the rest may be cut off."""
         summary, may = self.shown_said[rule, False], self.starts.lookaheads.may
         asks_nothing = not summary.ends and not any(may(look, ENDED) for look in summary.halts + summary.shuns)
         return rule in self.shown and (asks_nothing or self.cut_off(rule))
 
     def stands_before(self, rule, mark):
-        """What it asks of what follows it, the end answers as this mark does, or that may be cut off."""
+        """Its tests of what follows it give the same result at the end as before this mark, or the rest may be cut off."""
         summary, lookaheads = self.shown_said[rule, False], self.starts.lookaheads
         same = lambda a: (all(lookaheads.agree(look, a, ENDED, ()) for look in summary.ends)
                           and all(lookaheads.stays_off(look, a, ENDED, ()) for look in summary.halts))
@@ -94,16 +94,16 @@ class Files:
         body = '\n'.join([
             self.block('what is shown of its value (all its tokens, in their order) is read as the same value',
                        'abbrev pub reads_shown : Rule → Bool', lambda k: f'reads_shown {k} = {truth(k in self.shown)}'),
-            self.block('what is shown of what it read in front of a rest, whichever, is read as the same value',
+            self.block('what is shown of a value that it read before any rest is read as the same value',
                        'abbrev pub stands_alone : Rule → Bool', lambda k: f'stands_alone {k} = {truth(self.stands_alone(k))}'),
-            self.block('so is what it read in front of one of these marks (of `,` and `;`)',
+            self.block('the same of a value that it read before one of these marks (of `,` and `;`)',
                        'abbrev pub stands_before : Rule → List Text', self.stands_before_line),
         ])
         modules = [('Rattle.std.specs.Prelude', PRELUDE)] + self.specs('Words', 'Rules')
-        return self.file('Of which rules what is shown is read again, and where what was read before a rest is read at the end; the proofs compute each line again.', modules, body)
+        return self.file('The rules whose shown tokens are read again, and where a value that was read before a rest is read at the end; the proofs compute each line again.', modules, body)
 
     def table_file(self):
-        """The table as it stands, with the `use` lines that it needs."""
+        """The table as written, with the `use` lines that it needs."""
         text = (self.source.crate / 'specs' / 'Table.antt').read_text()
         modules = [('Rattle.std.specs.Prelude', PRELUDE)] + self.specs('Words', 'Tokens', 'Rules', 'Shape', 'Grammar', 'Forms')
         lines = use_lines(text, modules)
@@ -136,21 +136,21 @@ class Files:
         return f'-- {about}\n{signature}\n' + self.lines(line)
 
     def twice(self, about, signature, line):
-        """A definition with one line a rule where nobody asks for its facts, and one where somebody does."""
+        """A definition with two lines for each rule: one where its facts aren't tested, and one where they are."""
         return f'-- {about}\n{signature}\n' + self.lines(lambda k: line(k, False)) + self.lines(lambda k: line(k, True))
 
     def said_values(self):
         closed = self.starts.closed_of
         return [
-            self.block('what each rule begins with, whether it may read nothing, and what never stands behind it',
+            self.block('what each rule begins with, whether it may read nothing, and what never follows it',
                        'abbrev pub start_of : Rule → Start', self.start_line),
             self.block('it ends by itself',
                        'abbrev pub closed_of : Rule → Bool', lambda k: f'closed_of {k} = {truth(closed[k])}'),
-            self.block('each look keeps its answer where what follows it is cut off',
+            self.block('each look gives the same result where what follows it is cut off',
                        'abbrev pub cut_of : Rule → Bool', lambda k: f'cut_of {k} = {truth(k in self.cuts.cut)}'),
             self.block('no mark that is joined to what follows is the last token that is shown of it',
                        'abbrev pub spaced_of : Rule → Bool', lambda k: f'spaced_of {k} = {truth(k in self.cuts.spaced)}'),
-            self.block('somebody asks for the facts of its lookahead',
+            self.block('the facts of its lookahead are tested',
                        'abbrev pub heard_of : Rule → Bool', lambda k: f'heard_of {k} = {truth((k, True) in self.said)}'),
             self.twice('how its print may differ from what it read',
                        'abbrev pub summary_of : Bool → Rule → Summary', lambda k, told: self.summary_line('summary_of', self.said, k, told)),
@@ -169,7 +169,7 @@ class Files:
         return [
             self.block('so it is', 'pub starts_hold : IsSaid start_of table', lambda k: f'starts_hold {k} = (refl, λ e. {nullable(k)})'),
             self.block('nor do these', 'pub never_follow_hold : IsOff start_of table', lambda k: f'never_follow_hold {k} = refl'),
-            self.block('nothing is asked behind it',
+            self.block('it tests nothing of what follows it',
                        'pub closed_hold : (k : Rule) → closed_of k ≡ true → closes closed_of (table k) ≡ true',
                        lambda k: f'closed_hold {k} e = {closes(k)}'),
             self.block('no stream is read by two forms of a union',

@@ -1,4 +1,4 @@
-"""The table of rules in docs/GRAMMAR.md: each rule in the words that stand above it, and what reads it, if anything does yet."""
+"""The table of rules in docs/GRAMMAR.md: each rule with the sentence above it in the grammar, and its reader."""
 import re
 
 from .lists import RULE, read_lists
@@ -13,13 +13,13 @@ FUNCTION = re.compile(r"^((?: *#\[[^\n]*\]\n)*)( *)(pub )?(?:pub\(\w+\) )?fn (\w
 
 
 def by_hand(source, others):
-    """Each file of types that is written by hand, here, in the crate below and in those beside it, by its crate and its path there."""
+    """The path and the text of each file by hand, of this crate, the one below it and the others."""
     return [(f"{it.crate.name}/{file.as_posix()}", text) for it in (source.below, source, *others) if it for file, text in it.hand.items()]
 
 
 def readers(source, lists, others):
-    """By each rule, the types that are read by it; or else the functions that promise it of what is left to read, the public ones if there are any, and the
-    levels of operators; or else the functions whose proof opens its equation."""
+    """The readers of each rule: the types with a `Read` by it; or else the functions whose contract names it, public ones first, and the levels
+    of operators; or else the functions whose proof uses its equation."""
     types, opened = {}, {}
     functions = {rule: [(False, f"`{rule}` of `{source.crate.name}/comma_lists.rt`")] for rule in lists}
     for file, text in by_hand(source, others):
@@ -41,7 +41,7 @@ def readers(source, lists, others):
 
 
 def within_others(forms, found):
-    """The rules that nothing reads by themselves, but which stand in the form of one that is read, or of another such."""
+    """The rules without a reader of their own that are part of a rule with a reader, directly or through another such rule."""
     within, ahead = set(), [rule for rule in forms if rule in found]
     while ahead:
         inner = set(re.findall(r"\brule (\w+)", forms.get(ahead.pop(), ""))) - set(found) - within
@@ -51,13 +51,13 @@ def within_others(forms, found):
 
 
 def rows(source, table, page, *others):
-    """The page with its table of rules, as they are read by this crate of trees, the one below and these others."""
+    """The page with its table of rules and their readers in these crates."""
     lists = [name for name, _, _ in read_lists(source, table)[0]]
     text, found = page.read_text(), readers(source, lists, others)
     if HEAD not in text:
         raise Fault(f"{page} has no table of rules")
-    before, behind = text.split(HEAD)
-    after = behind[re.search(r"^(?!\|)", behind, re.M).start():]
+    before, rest = text.split(HEAD)
+    after = rest[re.search(r"^(?!\|)", rest, re.M).start():]
     lines, rules = "", RULE.findall(table.read_text())
     within = within_others({rule: form for _, rule, form in rules}, found)
     for words, rule, _ in rules:

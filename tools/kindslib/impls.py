@@ -1,4 +1,4 @@
-"""Copies and comparisons: the same for every type, part by part."""
+"""Copies, comparisons and prints: the same for every type, field by field."""
 import re
 from dataclasses import dataclass
 
@@ -8,8 +8,8 @@ from .views import syntax_of
 
 @dataclass
 class Family:
-    """Types that lead back to themselves: the one by which they do so, how the trait and the method of its help are called, the
-    function that makes a knot, the functions for lists of that type, the argument of the traits, and the copy of that type in a box."""
+    """A family of mutually recursive types: its entry, the type by which the others refer back; the names of the helper trait and of its
+    method; the function that makes a knot; the functions for lists of the entry; the argument of the traits; and the copy of a boxed entry."""
 
     entry: str
     bound: str
@@ -24,14 +24,14 @@ class Family:
         return f"Knot {{ {verb}: {field} }}" if self.argument else f"Knot {{ {field} }}"
 
     def knot_call(self, method, verb, last):
-        """A call at a knot, in the layout of `rt fmt`: a field of more than 18 characters stands on a line of its own."""
+        """A call at a knot, in the layout of `rt fmt`: a field of more than 18 characters has a line of its own."""
         field = f"{verb}: {verb}_{self.function}"
         if not self.argument or len(field) <= 18:
             return f"{method}(&{self.knot(verb)}, {last})"
         return f"{method}(\n            &Knot {{\n                {field},\n            }},\n            {last},\n        )"
 
     def uses(self, source, module, *names):
-        """What is imported of the module of these functions, and the type itself where their traits name it."""
+        """The imports from the module of these functions, and of the type itself where their traits name it."""
         own = [(source.own_path_of(self.entry), self.entry)] if self.argument else []
         return own + [(f"crate::nested::{module}", name) for name in names]
 
@@ -44,8 +44,8 @@ FAMILIES = {
     "use_trees": Family("UseTree", "Of", "one", "tree", "list", "<UseTree>"),
 }
 
-# of the types that lead back to a pattern, an expression or a tree of a use, those that are copied, compared and printed by themselves
-# too: a variant's struct of the first two isn't, as its `Pat` or `Expr` stands for it
+# the recursive types that have copies, comparisons and prints of their own. The struct of a variant of `Pat` or `Expr` has none: it is
+# used as that `Pat` or `Expr`
 ALONE = {"Block", "Expr", "Local", "LocalInit", "Pat", "PatType", "Stmt", "UseGroup", "UsePath", "UseTree"}
 
 # the fields of items and members that are never printed
@@ -55,30 +55,30 @@ UNSHOWN = {
     "ImplItemConst": {"generics"},
 }
 
-# the field behind which the where clause of generics stands that isn't printed with the parameters
+# the field after which the where clause of the generics is printed, apart from the parameters
 CLAUSES = {"ForeignItemType": "generics", "ImplItemType": "ty", "ItemTraitAlias": "bounds", "Signature": "output", "TraitItemType": "default"}
 
-# what stands in the braces of a body, behind inner attributes
+# types of the content of a body, after its inner attributes
 BODY_TYPES = re.compile(r"DeferredBlock|Vec<(?!Attribute>).*")
 NUMBERS = ["none", "one", "two", "three", "four", "five"]
 
 
 def has_body(t):
-    """Whether it has attributes, of which the inner ones stand in its braces."""
+    """Whether it has attributes, the inner ones in its braces."""
     return t.has_attributes() and any(BODY_TYPES.fullmatch(kind) for _, kind in t.fields)
 
 
 def stands_alone(t):
-    """Whether a type has copies, comparisons and prints of its own, and not only those with the help of a family's."""
+    """Whether a type has copies, comparisons and prints of its own, beside the helpers of its family."""
     return not (t.is_nested and FAMILIES[t.family].argument) or t.name in ALONE
 
 
-# what says that the parts of such a type are smaller than it, where computing doesn't
+# lemmas that the parts of a recursive type are smaller than it, where computation doesn't show it
 SMALLER_LISTS = "proofs::Smaller::lists"
 SMALLER = {"TypePath": ["crate::proofs::Smaller::qself_smaller", "crate::proofs::Smaller::path_smaller"]}
 
-# what the proofs of a type want whose view is its fields in a form of its own: of its print, its copy and its comparison (by its crate
-# too, where several have a type of this name); `whole` is of a comparison, and says of its attributes too
+# the lemmas for a type whose view arranges its fields in a form of its own: for its print, its copy and its comparison (with the crate's
+# name where several crates have a type of this name). `whole` is for a comparison, and covers the attributes too
 FORMS = "crate::proofs::Forms"
 MEMBERS = "crate::proofs::SameMembers"
 COPIED_MEMBERS = "crate::proofs::Members::copied_members"
@@ -122,8 +122,8 @@ LEMMAS = {
     "Local": {"print": ["syn_pat::proofs::Patterns::print_local"]},
     "PatIdent": {"print": [f"{PATTERNS}::print_bound"], "compare": [f"{PATTERNS}::same_bound"]},
     "PatParen": {"compare": ["syn_grammar::proofs::Same::and_true"]},
-    "PatType": {"print": [f"{PATTERNS}::print_behind"], "compare": [f"{PATTERNS}::same_typed"], "smaller": [f"{PATTERNS}::behind_smaller"]},
-    "PatWild": {"print": [f"{PATTERNS}::print_behind"], "compare": [f"{PATTERNS}::same_wild"]},
+    "PatType": {"print": [f"{PATTERNS}::print_after"], "compare": [f"{PATTERNS}::same_typed"], "smaller": [f"{PATTERNS}::after_smaller"]},
+    "PatWild": {"print": [f"{PATTERNS}::print_after"], "compare": [f"{PATTERNS}::same_wild"]},
     "Receiver": {"whole": ["crate::proofs::SameSignatures::same_receiver"]},
     "TraitItemConst": {"print": [f"{UNPRINTED}::print_generics_aside"], "whole": [f"{MEMBERS}::same_trait_constant"]},
     "TraitItemFn": {"whole": [f"{MEMBERS}::same_trait_function"]},
@@ -137,7 +137,7 @@ def lemmas_of(t):
 
 
 def lemmas(source, t, verb, body):
-    """What the proof of such a body is handed."""
+    """The lemmas for the proof of such a body."""
     of = lemmas_of(t)
     found = of.get(verb, []) + (of.get("smaller", []) if t.is_nested else [])
     if verb != "print" and t.is_nested and t.crate == LOWEST:
@@ -153,35 +153,37 @@ def tactic(lemmas):
 WRITTEN = "Written by tools/kinds.py; edits are lost."
 
 
-def import_line(path, names):
+def import_line(path, names, use="use"):
+    """An import of these names, in the layout of `rt fmt`; `use` may be indented, and public."""
     names = sorted(set(names))
     inside = names[0] if len(names) == 1 else "{" + ", ".join(names) + "}"
-    line = f"use {path}::{inside};"
+    line = f"{use} {path}::{inside};"
     if len(line) <= 100:
         return line + "\n"
-    lines, line = [], "   "
+    margin = " " * (len(use) - len(use.lstrip()))
+    lines, line = [], f"{margin}   "
     for name in names:
         if len(line) + len(name) + 2 > 99:
             lines.append(line)
-            line = "   "
+            line = f"{margin}   "
         line += f" {name},"
-    return f"use {path}::{{\n" + "\n".join(lines + [line]) + "\n};\n"
+    return f"{use} {path}::{{\n" + "\n".join(lines + [line]) + f"\n{margin}}};\n"
 
 
-def import_lines(uses):
-    """The imports of these names, by their paths: in the order of `rt fmt`, where several names of one module stand behind the
+def import_lines(uses, use="use"):
+    """The imports of these names, by their paths: in the order of `rt fmt`, where several names of one module are after the
     modules in it."""
     def key(item):
         path, names = item
         names = sorted(set(names))
         return [*path.split("::"), names[0] if len(names) == 1 else "\x7f"]
 
-    return "".join(import_line(path, names) for path, names in sorted(uses.items(), key=key))
+    return "".join(import_line(path, names, use) for path, names in sorted(uses.items(), key=key))
 
 
 def folder(source, name, title, one, attribute=""):
-    """The files of one trait's impls: beside each file of types one of the same name, and the modules above them; the topmost
-    has this attribute."""
+    """The files of one trait's impls: for each file of types one of the same name, and the modules above them; the topmost has this
+    attribute."""
     files, modules = {}, {}
     for file, types in source.files().items():
         blocks = [block for block in (one(source, t) for t in types) if block]
@@ -210,7 +212,7 @@ def module_lines(names):
 
 
 def assembled(blocks, children):
-    """The imports that the blocks want, the modules below, and the blocks."""
+    """The imports of the blocks, the modules below, and the blocks."""
     ghosts, uses = {}, {}
     for block in blocks:
         for module, name in block["ghosts"]:
@@ -226,7 +228,7 @@ def assembled(blocks, children):
 
 
 def empty_copy(t, field, kind, uses):
-    """The copy of a field that holds nothing."""
+    """The copy of a field that is always empty."""
     if kind.startswith("Vec<"):
         return "Vec::new(alloc)"
     if kind.startswith("Punctuated<"):
@@ -238,7 +240,7 @@ def empty_copy(t, field, kind, uses):
 
 
 def nested_copy(source, t, place, kind, uses):
-    """How a part of what leads back to itself is copied."""
+    """How a part of a recursive type is copied."""
     family = FAMILIES[t.family]
     inner = kind.removeprefix("Option<").removesuffix(">")
     if kind == family.entry:
@@ -279,8 +281,8 @@ def copy_struct(source, t, uses):
 
 
 def copied_payload(source, t, payload, uses):
-    """How what a variant holds is copied."""
-    if source.is_token(t, payload):
+    """How the payload of a variant is copied."""
+    if source.is_token(t, payload) or source.is_copied(payload):
         return "*value"
     if not t.is_nested:
         return "value.try_clone(alloc)?"
@@ -305,11 +307,13 @@ def copy_enum(source, t, uses):
 
 
 def copy_body(source, t, uses):
+    if t.is_copy:
+        return "        Ok(*self)\n"
     return copy_enum(source, t, uses) if t.is_enum else copy_struct(source, t, uses)
 
 
 def nested_copy_text(source, t, uses):
-    """The copy of a type that leads back to itself: with the help of the copy of a type, and then by itself."""
+    """The copy of a recursive type: by the helper trait, and by `TryClone`."""
     text, family = "", FAMILIES[t.family]
     if t.name != family.entry and not source.by_hand(f"impl CopyNested{family.argument} for {t.name}"):
         bound = f"Copy{family.bound}"
@@ -365,7 +369,7 @@ def copies(source):
 
 
 def is_compared(source, t, kind):
-    """Whether a field can tell two values apart, spans aside."""
+    """Whether two values can differ in this field, spans aside."""
     one_value = kind in source.types and source.types[kind].has_one_value()
     signs = kind in DELIMITERS and source.is_token(t, kind)
     return not (one_value or signs or source.is_empty(kind))
@@ -373,8 +377,8 @@ def is_compared(source, t, kind):
 
 @dataclass
 class Calls:
-    """What is called of a field that leads back to the type that it stands in: where it is the first type of the circle, one of the
-    others, or an option or a list of the first; and where the functions for these stand."""
+    """The calls for a field of a recursive type: of the family's entry, of another of its types, or of an option or a list of the entry;
+    and the module of the functions for the last two."""
 
     entry: str
     type: str
@@ -383,7 +387,7 @@ class Calls:
     module: str
 
     def of(self, source, t, field, kind, uses):
-        """The call of this field; none where it doesn't lead back."""
+        """The call for this field; none where its type isn't of the family."""
         if not t.is_nested:
             return None
         family = FAMILIES[t.family]
@@ -457,7 +461,7 @@ def compare_body(source, t, uses):
 
 
 def compared_lemmas(source, t, body):
-    """What the proof of such a comparison is handed."""
+    """The lemmas for the proof of such a comparison."""
     if "whole" in lemmas_of(t):
         return lemmas_of(t)["whole"]
     attributes = [f"{source.root()}::proofs::Attributes::same_attributes"] if t.has_attributes() else []
@@ -480,7 +484,7 @@ def compared_text(source, t, uses):
 
 
 def nested_compared_text(source, t, uses):
-    """The comparison of a type that leads back to itself: with the help of that of types, and then by itself."""
+    """The comparison of a recursive type: by the helper trait, and by `Compared`."""
     text, family = "", FAMILIES[t.family]
     if t.name != family.entry and not source.by_hand(f"impl CompareNested{family.argument} for {t.name}"):
         bound = f"Compare{family.bound}"
@@ -590,7 +594,7 @@ def print_step(source, t, field, kind, uses):
 
 
 def print_steps(source, t, field, kind, uses):
-    """The steps of a field: a modifier is printed by itself, and members stand behind inner attributes."""
+    """The steps of a field: each modifier has its own, and members are printed after inner attributes."""
     if field in UNSHOWN.get(t.name, ()) or kind == "Option<Colon>" and ("bounds", "Punctuated<TypeParamBound, Plus>") in t.fields:
         return []
     if field == "modifiers":
@@ -602,7 +606,7 @@ def print_steps(source, t, field, kind, uses):
 
 
 def print_struct(source, t, uses):
-    """The fields in order; what stands behind a delimiter of a group is printed between its delimiters."""
+    """The fields in order; those after a delimiter are printed inside its group."""
     steps, open_groups = [], []
     for field, kind in t.fields:
         if kind in DELIMITERS and source.is_token(t, kind) and not has_body(t):
@@ -625,12 +629,12 @@ def print_enum(source, t):
     return f"        match self {{\n{arms}        }}\n"
 
 
-# From so many parts on, a print of an item is proved part by part: with the parts in any order the search has no end.
+# A print of an item with at least so many parts is proved part by part: a search over the parts in any order doesn't end.
 MANY = 7
 
 
 def print_tactic(source, t, body):
-    """What the proof of a print is handed beside what all of them are."""
+    """The lemmas for the proof of a print, beside those that all prints have."""
     groups, more = ".open(out)" in body, lemmas(source, t, "print", body)
     if body.count("?;") >= MANY and t.crate == "syn_item":
         return tactic(["crate::proofs::LongPrints::in_order"] + more)
@@ -659,7 +663,7 @@ def print_text(source, t, uses):
 
 
 def nested_print_text(source, t, uses):
-    """The print of a type that leads back to itself: with the help of the print of a type, and then by itself."""
+    """The print of a recursive type: by the helper trait, and by `Print`."""
     text, family = "", FAMILIES[t.family]
     if t.name != family.entry and not source.by_hand(f"impl PrintNested{family.argument} for {t.name}"):
         bound = f"Print{family.bound}"

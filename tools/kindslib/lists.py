@@ -1,4 +1,4 @@
-"""Rules that are comma lists to the end of a group: the function that reads each, and its proof."""
+"""Rules that are comma lists to the end of a group: the function that parses each, and its proof."""
 import re
 import textwrap
 
@@ -24,7 +24,7 @@ def list_rules(table):
 
 
 def readers(source):
-    """By its rule, the type of what is read, and the call that reads it."""
+    """The type that each rule parses, and the call that parses it."""
     found = {}
     for text in source.hand.values():
         for name, rule in READ.findall(text):
@@ -86,15 +86,15 @@ use Rattle.syn_parse.specs.Listing.{{IsList}}
 
 
 def read_lists(source, table):
-    """The rules that are comma lists, but for those whose elements nothing reads and those that a function by hand reads; and what
-    reads the elements of each rule."""
+    """The rules that are comma lists, without those that have no parser of their elements and those with a function by hand; and the
+    parsers of elements."""
     known = readers(source)
     by_hand = {rule for text in source.hand.values() for rule in re.findall(r"\(parse_rule rules\.(\w+) input\.old\)", text)}
     return [(name, element, words) for name, element, words in list_rules(table) if element in known and name not in by_hand], known
 
 
 def comma_lists(source, table):
-    """src/comma_lists.rt, proofs/CommaLists.antt and an answer for each function."""
+    """src/comma_lists.rt, proofs/CommaLists.antt and a file Answers for each function."""
     lists, known = read_lists(source, table)
     views = {}
     uses = {"syn_tokens::token": ["Comma"]}

@@ -4,8 +4,8 @@ from .source import camel
 
 
 def imports(source, own, names, others):
-    """What types of these names and these others are imported by. One that is no tree is a wrapper, in the module `canon` of the crate
-    that is called `own`."""
+    """The imports of the types of these names, and of the others. A type that is no tree is a wrapper, in the module `canon` of the
+    crate `own`."""
     uses = {}
     for name in names:
         path = source.path_of(name) if name in source.types else f"{own}::canon"
@@ -16,7 +16,7 @@ def imports(source, own, names, others):
 
 
 def canonical(source, types):
-    """Of each of these types, what makes it one with a canonical print."""
+    """The impls of `Canonical` for these types."""
     blocks = "".join(f"""
 impl Canonical for {name} {{
     ghost rule = {{ rules.{rule} }};
@@ -104,7 +104,7 @@ pub(crate) fn compare_as_each(case: &Case<'_>, tally: &mut Tally) -> Result<(), 
 
 
 def answers_of_streams(source, kinds, at_once=16):
-    """The function that asks about a stream as the kind of a type's name, so many kinds in a function, each of which asks the next."""
+    """The function that parses a stream as the kind of this name, and further functions of so many kinds each, to which it passes on."""
     others = [("crate::answer", "Answer"), ("crate::answer", "answer_of"), ("crate::failure", "Failure"), ("syn::token", "TokenStream"), ("syn_recognize", "Rule")]
     packs = [kinds[start:start + at_once] for start in range(0, len(kinds), at_once)]
     blocks = []

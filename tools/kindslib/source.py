@@ -1,4 +1,4 @@
-"""Reads the structs and enums of the crates of trees, as far as they are laid out there: one field or variant a line."""
+"""Reads the structs and enums of the crates of trees: one field or variant a line."""
 import re
 
 FIRST_LINE = "Written by tools/kinds.py from here to the end; edits are lost."
@@ -10,12 +10,12 @@ VARIANT = re.compile(r"^    (\w+)(?:\((.*)\))?,$", re.M)
 USE = re.compile(r"^use (\w+)::([\w:]+)::(?:\{([^}]*)\}|(\w+));$", re.M)
 DELIMITERS = {"Paren", "Brace", "Bracket", "Group"}
 ATTRIBUTES = "Vec<Attribute>"
-# what is no syntax of the crate, and is copied by itself
+# types that are no syntax of the crate, and are `Copy`
 PLAIN = {"Span", "u32", "usize"}
 
 
 class Fault(Exception):
-    """What this script can't read."""
+    """A source that this script can't read."""
 
 
 class Type:
@@ -26,7 +26,7 @@ class Type:
         self.is_enum = kind == "enum"
         self.name = name
         self.file = file
-        self.is_copy = "Copy" in attributes
+        self.is_copy = bool(re.search(r"^#\[derive\(.*\bCopy\b", attributes, re.M))
         family = re.search(r"#\[cycle\((\w+)\)\]", attributes)
         self.family = family[1] if family else None
         self.fields = [] if self.is_enum else FIELD.findall(body)
@@ -37,30 +37,30 @@ class Type:
 
     @property
     def is_nested(self):
-        """Whether it leads back to itself."""
+        """Whether it is recursive: it has a family."""
         return self.family is not None
 
     def has_no_values(self):
         return self.is_enum and not self.variants
 
     def holds_something(self, nothing=lambda payload: False):
-        """Whether it has fields, or a variant that holds something else than nothing."""
+        """Whether it has fields, or a variant with a payload that isn't nothing."""
         return bool(self.fields) or any(payload and not nothing(payload) for _, payload in self.variants)
 
     def has_attributes(self):
         return any(kind == ATTRIBUTES for _, kind in self.fields)
 
     def has_one_value(self):
-        """Nothing in it tells two of its values apart: no fields, or one variant without any."""
+        """Whether all of its values are equal: it has no fields, or one variant without a payload."""
         return not self.fields and not self.is_enum or [payload for _, payload in self.variants] == [""]
 
 
-# the crate of the trees that all others are made of
+# the lowest crate of trees
 LOWEST = "syn_lower"
 
 
 class Source:
-    """The types of a crate, what is written by hand for them, and where; and those of the crate below, of which they are made."""
+    """The types of a crate, the code by hand with its files, and the types of the crate below it."""
 
     def __init__(self, crate, below=None):
         self.crate = crate
@@ -81,7 +81,7 @@ class Source:
         self.specs = {name: text for name, text in self.specs.items() if not text.startswith("-- Written by tools/kinds.py")}
 
     def by_hand(self, block):
-        """Whether a block of code stands in a file that is written by hand."""
+        """Whether a file by hand has this block of code."""
         return any(re.search(rf"^{block} \{{", text, re.M) for text in self.hand.values())
 
     def spec_of(self, name):
@@ -92,39 +92,38 @@ class Source:
         return None
 
     def is_choice(self, kind):
-        """Whether it is an enum of names alone, which stands for no syntax."""
+        """Whether it is an enum without payloads, which has no syntax."""
         t = self.types.get(kind)
         return bool(t and t.is_enum and t.variants and not t.holds_something() and not self.spec_of(f"syntax_of_{kind}"))
 
     def printed(self):
-        """The crate's types that stand for syntax: all that hold something but such choices, and the others that have a `syntax_of_X`."""
+        """The types of the crate that have syntax: all with something in them but such choices, and the others with a `syntax_of_X`."""
         own = [t for t in self.types.values() if t.crate == self.crate.name]
         return [t for t in own if t.holds_something(self.is_choice) or self.spec_of(f"syntax_of_{t.name}")]
 
     def owner(self, t):
-        """The source of the crate in which a type stands."""
+        """The source of the crate that has this type."""
         return self if t.crate == self.crate.name else self.below.owner(t)
 
     def root(self):
-        """How this crate calls the lowest one."""
+        """The name of the lowest crate, in this one."""
         return "crate" if self.crate.name == LOWEST else LOWEST
 
     def path_of(self, name):
-        """The crate that names a type, and the module through which it does: the top one of its file, which passes it on, or none
-        in the lowest crate."""
+        """The path of a type's module: its crate and the top module of its file, which exports it; in the lowest crate, the crate alone."""
         t = self.types[name]
         return t.crate if t.crate == LOWEST else f"{t.crate}::{t.file.parts[0].removesuffix('.rt')}"
 
     def own_path_of(self, name):
-        """The same, as this crate calls it."""
+        """The same path, in this crate."""
         return re.sub(rf"^{self.crate.name}\b", "crate", self.path_of(name))
 
     def is_nested(self, t, kind):
-        """Whether it is a type that leads back to the one that holds it."""
+        """Whether it is a type of the family of its holder."""
         return t.is_nested and kind in self.types and self.types[kind].family == t.family
 
     def leads_back(self, file):
-        """Whether a type of this file does."""
+        """Whether this file has a recursive type."""
         return any(t.is_nested for t in self.types.values() if t.file == file)
 
     def lists_nested(self, t, kind):
@@ -136,7 +135,7 @@ class Source:
         return kind in self.tokens[owner.file]
 
     def is_empty(self, kind):
-        """Whether a field of this type holds nothing, since some type in it has no values. (A name behind `::` is no type of the crate.)"""
+        """Whether a field of this type is always empty, since some type in it has no values. (A name after `::` is no type of the crate.)"""
         return any(name in self.types and self.types[name].has_no_values() for name in re.findall(r"(?<!::)\b\w+", kind))
 
     def holds_place(self, kind):
@@ -145,11 +144,16 @@ class Source:
 
     def is_plain_copy(self, owner, kind):
         """Whether a field is copied by itself."""
-        inner = re.fullmatch(r"Option<(\w+)>", kind)
-        return kind in PLAIN or self.is_token(owner, kind) or self.holds_place(kind) or bool(inner and self.is_token(owner, inner[1]))
+        inner = re.fullmatch(r"Option<([\w:]+)>", kind)
+        kind = inner[1] if inner else kind
+        return kind in PLAIN or self.is_token(owner, kind) or kind.startswith("token::") or self.holds_place(kind) or self.is_copied(kind)
+
+    def is_copied(self, kind):
+        """Whether it is a type of these crates that is `Copy`."""
+        return kind in self.types and self.types[kind].is_copy
 
     def files(self):
-        """The types that stand for syntax, by the file in which they stand."""
+        """The types that have syntax, by their files."""
         found = {}
         for t in self.printed():
             found.setdefault(t.file, []).append(t)

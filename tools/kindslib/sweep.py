@@ -1,13 +1,13 @@
-"""What the sweep with too little memory asks of each type: by which name it is called, and which variant a tree is."""
+"""The types of the sweep with too little memory: each by its name, and the variants of trees."""
 from .impls import WRITTEN
 from .program import imports
 
-# Of a struct, the field that holds what its forms differ by, and the enum that it is.
+# Structs whose forms differ in a field: that field, and its enum.
 FORMS = {"DeriveInput": ("shape", "Data")}
 
 
 def variants_of(source, name):
-    """The variants by which trees of a type differ, each with what it holds; none where it is a struct or a wrapper."""
+    """The variants of a type with their payloads; none for a struct or a wrapper."""
     enum = FORMS[name][1] if name in FORMS else name
     return source.types[enum].variants if enum in source.types else []
 
@@ -18,7 +18,7 @@ def arm(enum, variant, held):
 
 
 def named(source, name):
-    """How a type tells its variant."""
+    """The impl that names the variant of a tree."""
     variants = variants_of(source, name)
     if not variants:
         return f"\nimpl Named for {name} {{}}\n"
@@ -47,7 +47,7 @@ def variant_names(source, names, tokens):
 
 
 def ways(source, name, tokens):
-    """How trees of the type are copied and compared: a wrapper by what it holds."""
+    """How trees of the type are copied and compared: a wrapper by its field."""
     return "ByItself" if name in source.types or name in tokens else "InField"
 
 
@@ -64,7 +64,7 @@ fn {otherwise[0]}(word: &str, input: &Input<'_>, tally: &mut Tally) -> Result<()
 
 
 def sweeps(source, kinds, others, parsed, tokens):
-    """Each type by its name: the program's kinds, what else has a canonical print, and what has a parser alone."""
+    """Each type by its name: the program's kinds, the other types with a canonical print, and those with a parser alone."""
     head = [("crate::failure", "Failure"), ("crate::given", "Input"), ("crate::sweep", "as_canonical"), ("crate::sweep", "as_parsed")]
     head += [("crate::tally", "Tally"), ("crate::ways", "ByItself"), ("crate::ways", "InField"), *(("syn", name) for name in tokens)]
     call = "{}(word, input, tally)"

@@ -1,4 +1,4 @@
-"""Models and views: what syntax each struct stands for."""
+"""Models and views: the syntax of each struct."""
 import re
 
 from .source import ATTRIBUTES, DELIMITERS, LOWEST, MARK, Fault, snake
@@ -7,7 +7,7 @@ SYNTAXES = {"Ident": "syntax_of_ident", "Literal": "syntax_of_literal"}
 
 
 def has_model(source, t):
-    """A struct has one, unless it only has a `syntax_of_X`. Where it has both, this is what its value stands for."""
+    """A struct has a model, unless it has only a `syntax_of_X`. Where it has a view too, `syntax_of_X` is the syntax of that value."""
     return not t.is_enum and (source.spec_of(f"syntax_of_{t.name}") is None or source.spec_of(f"view_{t.name}") is not None)
 
 
@@ -35,7 +35,7 @@ impl std::marker::Model for {t.name} {{
 
 
 def size(t):
-    """Of a struct that leads back to itself: more than that of each of its parts."""
+    """The size of a recursive struct: greater than that of each of its parts."""
     return f"""
     ghost use Rattle.{LOWEST}.specs.Sizes.{{tree_size}};
 
@@ -48,14 +48,14 @@ def size(t):
 
 
 def syntax_of(source, t):
-    """What the clauses of this type call its syntax, and the module of specifications that it is from."""
+    """The function of clauses from a value of this type to its syntax, and the module of that function."""
     name = f"syntax_of_{t.name}"
     source = source.owner(t)
     file = source.spec_of(name)
     if file is None and has_model(source, t):
         return "itself", "syn_grammar.specs.Promises"
     if file is None:
-        raise Fault(f"{t.file}: {t.name} wants a {name} in specs/")
+        raise Fault(f"{t.file}: {t.name} needs a {name} in specs/")
     return name, f"{t.crate}.specs.{file}"
 
 
@@ -71,7 +71,7 @@ impl syn_tokens::syntactic::Syntactic for {t.name} {{
 
 
 def endings(source):
-    """Each file of types, with its ending."""
+    """Each file of types, with its written ending."""
     files = {}
     for file, types in source.files().items():
         blocks = [model(source, t) for t in types if has_model(source, t)] + [syntactic(source, t) for t in types]
@@ -80,7 +80,7 @@ def endings(source):
 
 
 class PlainView:
-    """The view of one struct: its fields in order, each behind the next delimiter of a group inside that group."""
+    """The view of one struct: its fields in order, those after a delimiter inside its group."""
 
     def __init__(self, source, joined, imports):
         self.source = source
@@ -126,7 +126,7 @@ class PlainView:
         (field, kind), *others = fields
         if kind in DELIMITERS and self.source.is_token(t, kind):
             if not others:
-                raise Fault(f"{t.file}: nothing stands in the group of {t.name}, so write view_{t.name} in specs/ by hand")
+                raise Fault(f"{t.file}: the group of {t.name} is empty, so write view_{t.name} in specs/ by hand")
             group = self.take(f"{LOWEST}.specs.Parts", "group_syntax")
             return f"{group} {self.take('syn_grammar.specs.Tokens', kind)} a.{field} {atom(self.of_fields(t, others))}"
         syntax = self.of_field(t, field, kind)

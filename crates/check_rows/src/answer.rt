@@ -43,7 +43,7 @@ pub(crate) fn told(alloc: Global, found: Result<String>) -> std::result::Result<
 }
 
 /// The bytes of a fault, and its words.
-pub(crate) fn fault_told(alloc: Global, fault: &Fault) -> Result<String> {
+pub(crate) fn fault_known(alloc: Global, fault: &Fault) -> Result<String> {
     let Span { start, end } = fault.span;
     Ok(format!(in alloc; "{start}..{end}: {}", fault.text)?)
 }
@@ -100,7 +100,7 @@ fn copy_printed<T: ToTokens + TryClone + Drop>(alloc: Global, tree: &T) -> Resul
 
 /// The bytes at which the whole text is refused as a `T`, and in which words.
 fn refusal<T: Parse + Drop>(alloc: Global, text: &str) -> Result<String> {
-    fault_told(alloc, &refused::<T>(alloc, text)?)
+    fault_known(alloc, &refused::<T>(alloc, text)?)
 }
 
 /// What a `T` that is parsed from the front of the text leaves.

@@ -1,6 +1,6 @@
 //! What comes of a text by a call that reads a tree at its front.
 
-use crate::answer::{fault_told, told, tree_shown};
+use crate::answer::{fault_known, told, tree_shown};
 use crate::call::Call;
 use crate::compared::compared;
 use crate::failure::Failure;
@@ -65,7 +65,7 @@ fn tree_printed<C: Call>(alloc: Global, tree: &C::Tree) -> Result<String> {
 
 /// The bytes at which the call is refused, and in which words.
 fn refusal<C: Call>(alloc: Global, text: &str) -> Result<String> {
-    fault_told(alloc, &fault(read::<C>(alloc, text))?)
+    fault_known(alloc, &fault(read::<C>(alloc, text))?)
 }
 
 /// What is left behind the tree.

@@ -75,10 +75,10 @@ fn members(alloc: Global, fields: &Fields) -> Result<String> {
     if fields.len() > 1000 {
         return Err(Error::new(Span::call_site(), "too many fields"));
     }
-    Ok(members_told(alloc, fields.members())?)
+    Ok(members_known(alloc, fields.members())?)
 }
 
-fn members_told(alloc: Global, members: Members<'_>) -> std::result::Result<String, AllocError> {
+fn members_known(alloc: Global, members: Members<'_>) -> std::result::Result<String, AllocError> {
     let mut text = String::new(alloc);
     for member in members {
         add_member(&mut text, &member)?;

@@ -1,48 +1,16 @@
 //! What comes of a text by its canonical print.
 
-use crate::answer::{fault_told, told};
+use crate::answer::{fault_known, told};
 use crate::failure::Failure;
-use crate::item_forms::item_form_as;
-use crate::question::{FormQuestion, Heading};
+use crate::question::FormQuestion;
 use crate::row::Row;
 use std::alloc::Global;
-use syn::canon::{Canonical, NamedField, Stmts, UnnamedField, canonical, same_form};
-use syn::data::{FieldsNamed, FieldsUnnamed, Variant};
-use syn::derive::DeriveInput;
-use syn::item::{ItemEnum, ItemStruct, ItemUnion};
+use syn::canon::{Canonical, canonical, same_form};
 use syn::reader::{read_tokens, token_text};
-use syn::restriction::Visibility;
-use syn::stmt::{Block, Stmt};
 use syn::{Error, Result, Span};
 use syn_test_support::fault;
 
-/// What comes of the row as the kind of this word, which stands in the heading; else what `item_form_as` says.
-pub(crate) fn form_as(
-    alloc: Global,
-    question: FormQuestion,
-    heading: &Heading<'_>,
-    word: &str,
-    row: &Row<'_>,
-) -> std::result::Result<String, Failure> {
-    match word {
-        "DeriveInput" => form::<DeriveInput>(alloc, question, row),
-        "ItemStruct" => form::<ItemStruct>(alloc, question, row),
-        "ItemEnum" => form::<ItemEnum>(alloc, question, row),
-        "ItemUnion" => form::<ItemUnion>(alloc, question, row),
-        "Variant" => form::<Variant>(alloc, question, row),
-        "FieldsNamed" => form::<FieldsNamed>(alloc, question, row),
-        "FieldsUnnamed" => form::<FieldsUnnamed>(alloc, question, row),
-        "NamedField" => form::<NamedField>(alloc, question, row),
-        "UnnamedField" => form::<UnnamedField>(alloc, question, row),
-        "Visibility" => form::<Visibility>(alloc, question, row),
-        "Block" => form::<Block>(alloc, question, row),
-        "Stmt" => form::<Stmt>(alloc, question, row),
-        "Stmts" => form::<Stmts>(alloc, question, row),
-        _ => item_form_as(alloc, question, heading, word, row),
-    }
-}
-
-/// The same as a `T`.
+/// The result of the row as a `T`.
 pub(crate) fn form<T: Canonical + Drop>(
     alloc: Global,
     question: FormQuestion,
@@ -73,7 +41,7 @@ fn canonical_text<T: Canonical + Drop>(alloc: Global, text: &str) -> Result<Stri
 
 /// The bytes at which the text is refused, and in which words.
 fn refusal<T: Canonical + Drop>(alloc: Global, text: &str) -> Result<String> {
-    fault_told(alloc, &fault(canonical_text::<T>(alloc, text))?)
+    fault_known(alloc, &fault(canonical_text::<T>(alloc, text))?)
 }
 
 /// `alike` or `unlike`; `unsure` where that depends on the order.

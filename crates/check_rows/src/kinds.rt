@@ -1,34 +1,27 @@
-//! The kinds of trees, by their words.
+//! The kinds of rows by their words: here types without a rule of their own, and calls; all other types are in `by_kind`.
 
 use crate::answer::answer;
+use crate::by_kind::tree_as;
 use crate::call::{
-    Converted, InnerAttributes, ModStyle, NamedField, OpenedConstant, OpenedLength, OpenedRest,
-    OuterAttributes, Rest, TypedPattern, UnnamedField, WithinBlock,
+    EitherSafety, ForeignSignature, InnerAttributes, ModStyle, NamedField, OpenedBlock,
+    OpenedConstant, OpenedItem, OpenedLength, OpenedRest, OuterAttributes, ReceiverOf, Rest,
+    TypedPattern, UnnamedField, UnsafeAlone, WithinBlock,
 };
 use crate::called::called;
-use crate::conversions::of_items_made;
+use crate::conversions::converted_as;
 use crate::failure::Failure;
 use crate::fields::fields_as;
-use crate::form::form_as;
-use crate::item_kinds::of_whole_items;
+use crate::forms_by_kind::form_as;
 use crate::modifiers::faults_as;
 use crate::parts::parts_as;
 use crate::question::{Heading, Question, TreeQuestion};
 use crate::row::Row;
 use std::alloc::Global;
-use syn::data::{Fields, FieldsNamed, FieldsUnnamed, Variant};
-use syn::deferred::DeferredConstant;
-use syn::derive::DeriveInput;
-use syn::item::{ItemEnum, ItemStruct, ItemUnion};
-use syn::lower::{
-    BoundLifetimes, GenericParam, Generics, LifetimeParam, Lit, Path, ReturnType, TraitBound,
-    TraitBoundModifier, Type, TypeParamBound, TypePath, WhereClause, WherePredicate,
-};
-use syn::restriction::Visibility;
-use syn::stmt::{Block, Stmt};
-use syn::{Expr, Macro, Pat};
+use syn::deferred::{DeferredBlock, DeferredConstant, DeferredItem};
+use syn::item::StaticMutability;
+use syn::lower::{BoundLifetimes, GenericParam, TraitBound, TraitBoundModifier, WhereClause};
 
-/// What comes of the row as the kind of this word, which stands in the heading.
+/// The result of the row as the kind of this word of the heading.
 pub(crate) fn answer_as(
     alloc: Global,
     heading: &Heading<'_>,
@@ -36,7 +29,7 @@ pub(crate) fn answer_as(
     row: &Row<'_>,
 ) -> Result<String, Failure> {
     match heading.question {
-        Question::OfTree(question) => of_items(alloc, question, heading, word, row),
+        Question::OfTree(question) => tree_as(alloc, question, heading, word, row),
         Question::OfForm(question) => form_as(alloc, question, heading, word, row),
         Question::Parts => parts_as(alloc, heading, word, row.text),
         Question::Fields => fields_as(alloc, heading, word, row.text),
@@ -44,8 +37,8 @@ pub(crate) fn answer_as(
     }
 }
 
-/// Structs, enums and unions, and what is in them; else what `of_whole_items` says.
-fn of_items(
+/// Parts of trees without a rule of their own; else the result of `call_as`.
+pub(crate) fn other_tree(
     alloc: Global,
     question: TreeQuestion,
     heading: &Heading<'_>,
@@ -53,82 +46,21 @@ fn of_items(
     row: &Row<'_>,
 ) -> Result<String, Failure> {
     match word {
-        "DeriveInput" => answer::<DeriveInput>(alloc, question, row),
-        "ItemStruct" => answer::<ItemStruct>(alloc, question, row),
-        "ItemEnum" => answer::<ItemEnum>(alloc, question, row),
-        "ItemUnion" => answer::<ItemUnion>(alloc, question, row),
-        "Variant" => answer::<Variant>(alloc, question, row),
-        "FieldsNamed" => answer::<FieldsNamed>(alloc, question, row),
-        "FieldsUnnamed" => answer::<FieldsUnnamed>(alloc, question, row),
-        "Visibility" => answer::<Visibility>(alloc, question, row),
-        _ => of_whole_items(alloc, question, heading, word, row),
-    }
-}
-
-/// Patterns, macros, expressions and statements; else what `of_types` says.
-pub(crate) fn of_expressions(
-    alloc: Global,
-    question: TreeQuestion,
-    heading: &Heading<'_>,
-    word: &str,
-    row: &Row<'_>,
-) -> Result<String, Failure> {
-    match word {
-        "Pat" => answer::<Pat>(alloc, question, row),
-        "Macro" => answer::<Macro>(alloc, question, row),
-        "typed_pattern" => called::<TypedPattern>(alloc, question, row),
-        "Expr" => answer::<Expr>(alloc, question, row),
-        "Block" => answer::<Block>(alloc, question, row),
-        "Stmt" => answer::<Stmt>(alloc, question, row),
-        "Block::parse_within" => called::<WithinBlock>(alloc, question, row),
-        _ => of_types(alloc, question, heading, word, row),
-    }
-}
-
-/// Types, paths and values; else what `of_generics` says.
-fn of_types(
-    alloc: Global,
-    question: TreeQuestion,
-    heading: &Heading<'_>,
-    word: &str,
-    row: &Row<'_>,
-) -> Result<String, Failure> {
-    match word {
-        "Type" => answer::<Type>(alloc, question, row),
-        "TypePath" => answer::<TypePath>(alloc, question, row),
-        "Path" => answer::<Path>(alloc, question, row),
-        "ReturnType" => answer::<ReturnType>(alloc, question, row),
-        "Lit" => answer::<Lit>(alloc, question, row),
-        "Deferred<Constant>" => answer::<DeferredConstant>(alloc, question, row),
-        _ => of_generics(alloc, question, heading, word, row),
-    }
-}
-
-/// Generics and their parts; else what `of_calls` says.
-fn of_generics(
-    alloc: Global,
-    question: TreeQuestion,
-    heading: &Heading<'_>,
-    word: &str,
-    row: &Row<'_>,
-) -> Result<String, Failure> {
-    match word {
-        "Generics" => answer::<Generics>(alloc, question, row),
         "GenericParam" => answer::<GenericParam>(alloc, question, row),
-        "LifetimeParam" => answer::<LifetimeParam>(alloc, question, row),
-        "TypeParamBound" => answer::<TypeParamBound>(alloc, question, row),
         "TraitBound" => answer::<TraitBound>(alloc, question, row),
         "TraitBoundModifier" => answer::<TraitBoundModifier>(alloc, question, row),
         "BoundLifetimes" => answer::<BoundLifetimes>(alloc, question, row),
-        "WhereClause" => answer::<WhereClause>(alloc, question, row),
         "Option<WhereClause>" => answer::<Option<WhereClause>>(alloc, question, row),
-        "WherePredicate" => answer::<WherePredicate>(alloc, question, row),
-        _ => of_calls(alloc, question, heading, word, row),
+        "StaticMutability" => answer::<StaticMutability>(alloc, question, row),
+        "DeferredBlock" => answer::<DeferredBlock>(alloc, question, row),
+        "DeferredItem" => answer::<DeferredItem>(alloc, question, row),
+        "Deferred<Constant>" => answer::<DeferredConstant>(alloc, question, row),
+        _ => call_as(alloc, question, heading, word, row),
     }
 }
 
-/// Calls that read a tree; else what `of_deferred_trees` says.
-fn of_calls(
+/// Calls that read a tree; else the result of `opened_as`.
+fn call_as(
     alloc: Global,
     question: TreeQuestion,
     heading: &Heading<'_>,
@@ -136,17 +68,23 @@ fn of_calls(
     row: &Row<'_>,
 ) -> Result<String, Failure> {
     match word {
+        "typed_pattern" => called::<TypedPattern>(alloc, question, row),
+        "Block::parse_within" => called::<WithinBlock>(alloc, question, row),
         "Field::parse_named" => called::<NamedField>(alloc, question, row),
         "Field::parse_unnamed" => called::<UnnamedField>(alloc, question, row),
         "Path::parse_mod_style" => called::<ModStyle>(alloc, question, row),
         "Attribute::parse_outer" => called::<OuterAttributes>(alloc, question, row),
         "Attribute::parse_inner" => called::<InnerAttributes>(alloc, question, row),
-        _ => of_deferred_trees(alloc, question, heading, word, row),
+        "foreign_signature" => called::<ForeignSignature>(alloc, question, row),
+        "Signature::receiver" => called::<ReceiverOf>(alloc, question, row),
+        "Safety::parse_safe_or_unsafe" => called::<EitherSafety>(alloc, question, row),
+        "Safety::parse_unsafe_only" => called::<UnsafeAlone>(alloc, question, row),
+        _ => opened_as(alloc, question, heading, word, row),
     }
 }
 
-/// Deferred trees that calls read, and what they are once opened; else what `of_derive_inputs` says.
-fn of_deferred_trees(
+/// Deferred trees that calls read, and what they are once opened; else the result of `converted_as`.
+fn opened_as(
     alloc: Global,
     question: TreeQuestion,
     heading: &Heading<'_>,
@@ -156,36 +94,10 @@ fn of_deferred_trees(
     match word {
         "Deferred<Constant>::open" => called::<OpenedConstant>(alloc, question, row),
         "Deferred<Expr>::open" => called::<OpenedRest>(alloc, question, row),
+        "Deferred<Item>::open" => called::<OpenedItem>(alloc, question, row),
+        "DeferredBlock::open" => called::<OpenedBlock>(alloc, question, row),
         "TypeArray::len" => called::<OpenedLength>(alloc, question, row),
         "read_deferred_rest" => called::<Rest>(alloc, question, row),
-        _ => of_derive_inputs(alloc, question, heading, word, row),
-    }
-}
-
-/// Inputs of derives and fields that are made of others; else what `of_items_made` says.
-fn of_derive_inputs(
-    alloc: Global,
-    question: TreeQuestion,
-    heading: &Heading<'_>,
-    word: &str,
-    row: &Row<'_>,
-) -> Result<String, Failure> {
-    match word {
-        "DeriveInput::from(ItemStruct)" => {
-            called::<Converted<ItemStruct, DeriveInput>>(alloc, question, row)
-        }
-        "DeriveInput::from(ItemEnum)" => {
-            called::<Converted<ItemEnum, DeriveInput>>(alloc, question, row)
-        }
-        "DeriveInput::from(ItemUnion)" => {
-            called::<Converted<ItemUnion, DeriveInput>>(alloc, question, row)
-        }
-        "Fields::from(FieldsNamed)" => called::<Converted<FieldsNamed, Fields>>(
-            alloc, question, row,
-        ),
-        "Fields::from(FieldsUnnamed)" => {
-            called::<Converted<FieldsUnnamed, Fields>>(alloc, question, row)
-        }
-        _ => of_items_made(alloc, question, heading, word, row),
+        _ => converted_as(alloc, question, heading, word, row),
     }
 }

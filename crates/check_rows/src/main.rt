@@ -35,6 +35,7 @@
 #![tactic(auto)]
 
 mod answer;
+mod by_kind;
 mod call;
 mod called;
 mod compared;
@@ -43,8 +44,7 @@ mod escapes;
 mod failure;
 mod fields;
 mod form;
-mod item_forms;
-mod item_kinds;
+mod forms_by_kind;
 mod kinds;
 mod modifiers;
 mod parts;

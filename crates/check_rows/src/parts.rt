@@ -3,7 +3,7 @@
 use crate::answer::told;
 use crate::failure::Failure;
 use crate::question::Heading;
-use crate::types::type_told;
+use crate::types::type_known;
 use std::alloc::{AllocError, Global};
 use std::fmt::Write as _;
 use syn::Result;
@@ -40,13 +40,13 @@ fn parts_of<T: Parts>(alloc: Global, text: &str) -> Result<String> {
 
 impl Parts for Type {
     fn parts(&self, alloc: Global) -> Result<String> {
-        type_told(alloc, self)
+        type_known(alloc, self)
     }
 }
 
 impl Parts for GenericParam {
     fn parts(&self, alloc: Global) -> Result<String> {
-        Ok(param_told(alloc, self)?)
+        Ok(param_known(alloc, self)?)
     }
 }
 
@@ -63,7 +63,7 @@ impl Parts for FieldsUnnamed {
 }
 
 /// What a parameter is, and its signs and bounds and default, as far as it has them.
-fn param_told(alloc: Global, param: &GenericParam) -> std::result::Result<String, AllocError> {
+fn param_known(alloc: Global, param: &GenericParam) -> std::result::Result<String, AllocError> {
     let mut text = String::new(alloc);
     match param {
         GenericParam::Lifetime(param) => add_lifetime_param(&mut text, param)?,

@@ -180,14 +180,14 @@ fn tell_answers(said: &mut String, found: &str, want: &str) -> Result<(), AllocE
 /// The place behind the line of this number.
 fn behind<'a>(place: Place<'a>, number: usize, line: &'a str) -> Result<Place<'a>, Failure> {
     match place {
-        Place::Before => behind_title(number, line),
-        Place::Within(heading) => behind_text(heading, number, line),
+        Place::Before => after_title(number, line),
+        Place::Within(heading) => after_text(heading, number, line),
         Place::Behind(heading, _, _) => Ok(Place::Within(heading)),
     }
 }
 
 /// The same of a line before the rows of a section.
-fn behind_title<'a>(number: usize, line: &'a str) -> Result<Place<'a>, Failure> {
+fn after_title<'a>(number: usize, line: &'a str) -> Result<Place<'a>, Failure> {
     if line.is_empty() || line.starts_with('#') {
         return Ok(Place::Before);
     }
@@ -198,7 +198,7 @@ fn behind_title<'a>(number: usize, line: &'a str) -> Result<Place<'a>, Failure> 
 }
 
 /// The same of the first line of a row, or the empty line behind the last.
-fn behind_text<'a>(
+fn after_text<'a>(
     heading: Heading<'a>,
     number: usize,
     line: &'a str,

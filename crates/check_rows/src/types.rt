@@ -14,7 +14,7 @@ use syn::{Error, Result};
 const DEPTH: usize = 30;
 
 /// The text that shows a type.
-pub(crate) fn type_told(alloc: Global, ty: &Type) -> Result<String> {
+pub(crate) fn type_known(alloc: Global, ty: &Type) -> Result<String> {
     let mut out = TypeText {
         text: String::new(alloc),
         is_refused: false,

@@ -39,7 +39,7 @@ fn describe_text(alloc: Global, text: &str) -> syn::Result<String> {
     describe(alloc, &input)
 }
 
-/// Reads all of the input, writes what it spells, and answers the exit status.
+/// Reads all of the input, writes what it spells, and returns the exit status.
 fn run<R: Read + Drop, W: Write + Drop, V: Write + Drop>(
     alloc: Global,
     mut input: R,

@@ -22,7 +22,7 @@ pub(crate) fn add_input(lines: &mut String, input: &DeriveInput, alloc: Global) 
     }
 }
 
-/// The word that tells what it is.
+/// The word for its kind.
 fn kind_of(shape: &Data) -> &'static str {
     match shape {
         Data::Struct(_) => "struct",
@@ -102,7 +102,7 @@ fn add_named_fields(lines: &mut String, fields: &FieldsNamed, alloc: Global) -> 
     Ok(())
 }
 
-/// Adds the line of a field: what it is called, its type, where that stands, and its default.
+/// Adds the line of a field: what it is called, its type, its span, and its default.
 fn add_field(
     lines: &mut String,
     indent: &str,
@@ -125,14 +125,14 @@ fn add_member(lines: &mut String, member: &MemberRef<'_>) -> Result<(), AllocErr
     }
 }
 
-/// Adds the text of a type's tokens, and where they stand.
+/// Adds the text of a type's tokens, and their spans.
 fn add_type(lines: &mut String, ty: &TokenStream) -> syn::Result<()> {
     let Span { start, end } = place_of(ty);
     write!(lines, ": {} at {start}..{end}", token_text(ty)?.as_str())?;
     Ok(())
 }
 
-/// Adds a default or a discriminant, where there is one. It is a constant, and deferred: it is kept as its tokens, and is a tree once
+/// Adds a default or a discriminant, where there is one. It is a constant, and deferred: it is kept verbatim, and is a tree once
 /// it is opened.
 fn add_value(
     lines: &mut String,

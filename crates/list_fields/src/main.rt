@@ -1,5 +1,5 @@
 //! What a derive macro walks: reads a struct, an enum or a union from standard input, and writes its fields, each with its
-//! type and where that stands.
+//! type and its span.
 //!
 //! It writes a line with the kind and the name, the generics and the predicates of the where clause where there are any, and a
 //! line for each variant and each field. The status is 0; 1 where the text is refused or can't be read or written, with a line
@@ -24,7 +24,7 @@ fn describe(alloc: Global, text: &str) -> syn::Result<String> {
     Ok(lines)
 }
 
-/// Reads all of the input, writes what it spells, and answers the exit status.
+/// Reads all of the input, writes what it spells, and returns the exit status.
 fn run<R: Read + Drop, W: Write + Drop, V: Write + Drop>(
     alloc: Global,
     mut input: R,

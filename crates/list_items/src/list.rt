@@ -7,7 +7,7 @@ use std::alloc::{AllocError, Global};
 use syn::item::Items;
 use syn::{Error, File, Item};
 
-/// So deep modules may stand in each other.
+/// The depth to which modules are walked.
 const DEPTH: usize = 100;
 
 /// The lines of a file.
@@ -17,7 +17,7 @@ pub(crate) fn list_file(file: &File, alloc: Global) -> syn::Result<String> {
     Ok(lines)
 }
 
-/// Adds the lines of items, with those of what stands in them. So many modules may still stand in each other.
+/// Adds the lines of items, with those of what is in them. The walk goes this many modules deeper.
 fn add_items(
     lines: &mut String,
     indent: &str,
@@ -43,7 +43,7 @@ fn add_items(
     Ok(())
 }
 
-/// How far what stands in an item is indented.
+/// The indentation of what is in an item.
 fn deeper(indent: &str, alloc: Global) -> Result<String, AllocError> {
     let mut inside = String::from_str(alloc, indent)?;
     inside.push_str("  ")?;

@@ -1,7 +1,7 @@
 //! What a tool walks that reads whole files: reads a file from standard input, and writes a tree of its items.
 //!
 //! It writes a line for each item and each member of an impl, a trait or a foreign module: its visibility, what it is, what it is
-//! called, and from which byte to which it stands, its attributes included. Modules are opened, and what stands in one is indented
+//! called, and its byte range, its attributes included. Modules are opened, and what is in one is indented
 //! below it; bodies of functions stay closed. The status is 0; 1 where the text is refused or can't be read or written, with a line on
 //! standard error.
 #![tactic(auto)]
@@ -25,7 +25,7 @@ fn describe(alloc: Global, text: &str) -> syn::Result<String> {
     list_file(&file, alloc)
 }
 
-/// Reads all of the input, writes the tree of its items, and answers the exit status.
+/// Reads all of the input, writes the tree of its items, and returns the exit status.
 fn run<R: Read + Drop, W: Write + Drop, V: Write + Drop>(
     alloc: Global,
     mut input: R,

@@ -5,7 +5,7 @@ use std::alloc::Global;
 use std::fmt::Write as _;
 use syn::{Item, ItemForeignMod, ItemImpl, ItemMacro, ItemUse};
 
-/// What an item is and what it is called, behind its visibility.
+/// What an item is and what it is called, after its visibility.
 pub(crate) fn name_of(item: &Item, alloc: Global) -> syn::Result<String> {
     match item {
         Item::Const(item) => named(&item.vis, "const", &item.ident, alloc),
@@ -50,7 +50,7 @@ fn implemented(item: &ItemImpl, alloc: Global) -> syn::Result<String> {
     Ok(text)
 }
 
-/// The macro that is called, and the name behind its `!`, where there is one.
+/// The macro that is called, and the name after its `!`, where there is one.
 fn macro_called(item: &ItemMacro, alloc: Global) -> syn::Result<String> {
     let mut text = text_of(&item.mac.path, alloc)?;
     text.push_str(" !")?;

@@ -6,7 +6,7 @@ use syn::reader::token_text;
 use syn::token::{Ident, TokenStream, TokenTreeRef};
 use syn::{Span, ToTokens, Visibility};
 
-/// Adds the line of an item or a member: how it is called, and where it stands.
+/// Adds the line of an item or a member: how it is called, and its span.
 pub(crate) fn add_line<T: ToTokens>(
     lines: &mut String,
     indent: &str,
@@ -31,7 +31,7 @@ pub(crate) fn named(
     Ok(text)
 }
 
-/// A visibility with a space behind it, or nothing.
+/// A visibility followed by a space, or nothing.
 pub(crate) fn visible(vis: &Visibility, alloc: Global) -> syn::Result<String> {
     let mut text = text_of(vis, alloc)?;
     if !matches!(vis, Visibility::Inherited) {

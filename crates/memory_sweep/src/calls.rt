@@ -32,11 +32,11 @@ impl<T: Parse + ToTokens + Named + Drop, W: Ways<T>> Call<Given<T>> for ParseWho
 }
 
 /// `T::parse`, on a buffer from which one token was read.
-pub(crate) struct ParseBehind<W> {
+pub(crate) struct ParseAfter<W> {
     ways: PhantomData<W>,
 }
 
-impl<T: Parse + ToTokens + Named + Drop, W: Ways<T>> Call<Given<T>> for ParseBehind<W> {
+impl<T: Parse + ToTokens + Named + Drop, W: Ways<T>> Call<Given<T>> for ParseAfter<W> {
     fn once(given: &Given<T>, number: usize) -> Result<Run> {
         let mut input = ParseBuffer::new(&given.behind);
         let _before: Ident = input.parse()?;

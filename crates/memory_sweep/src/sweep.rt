@@ -1,7 +1,7 @@
 //! All runs of the calls on an input.
 
 use crate::calls::{
-    CanonicalPrint, JoinItems, ParseBehind, ParseWhole, SameForm, ToHeldTokens, TreeCopy,
+    CanonicalPrint, JoinItems, ParseAfter, ParseWhole, SameForm, ToHeldTokens, TreeCopy,
 };
 use crate::ends::Call;
 use crate::failure::Failure;
@@ -44,7 +44,7 @@ fn parsed<T: Parse + ToTokens + Named + Drop, W: Ways<T>>(
         return Err(Failure::Broken);
     }
     sweep::<Given<T>, ParseWhole<W>>(&given, "parse2", tally)?;
-    sweep::<Given<T>, ParseBehind<W>>(&given, "parse", tally)?;
+    sweep::<Given<T>, ParseAfter<W>>(&given, "parse", tally)?;
     sweep::<Given<T>, ToHeldTokens>(&given, "to_tokens", tally)?;
     sweep::<Given<T>, TreeCopy<W>>(&given, "try_clone", tally)?;
     Ok(given)

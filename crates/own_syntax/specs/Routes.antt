@@ -6,7 +6,7 @@ use Rattle.syn_grammar.specs.Rules.{type_path, type}
 use Rattle.syn_grammar.specs.Grammar.{token, name, word, any_literal, rule, Syntax, Token}
 use Rattle.syn_parse.specs.Form.{Condition, by, Form, of, keyword, punctuation, ◌followed_by◌, in_group, list, optional, such_that}
 
--- the text of a path begins with `/`, behind its quote
+-- the text of a path begins with `/` after its quote
 abbrev pub is_path_text : Text → Bool
 is_path_text x = begins_text (codes "\"/") x
 

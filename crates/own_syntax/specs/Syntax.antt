@@ -1,4 +1,4 @@
--- WHAT SYNTAX ROUTES STAND FOR: their parts, in order.
+-- THE SYNTAX OF ROUTES: their parts, in order.
 use Rattle.std.specs.Prelude.{codes, List, Option}
 use Rattle.syn_grammar.specs.Tokens.{Bracket}
 use Rattle.syn_grammar.specs.Grammar.{Syntax, Both}

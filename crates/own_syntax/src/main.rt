@@ -1,7 +1,7 @@
 //! Reads routes, a syntax of its own, from standard input, and writes two lines for each: what it says, and its tokens.
 //!
 //! A route is `route GET "/users" ~> users::list [page: u8, size: u8] if admin`, with or without the part that begins with
-//! `if`; a `;` stands between routes. The status is 0; 1 where the text is refused or can't be read or written, with a line
+//! `if`; a `;` is between routes. The status is 0; 1 where the text is refused or can't be read or written, with a line
 //! on standard error.
 #![tactic(auto)]
 
@@ -31,7 +31,7 @@ use syn::token::{Semi, TokenStream};
 
 /// The routes that a whole stream is, with `;` between them.
 ///
-/// It is refused where it is no such list, with the fault ``expected `route` `` or the like at the token that can't stand
+/// It is refused where it is no such list, with the fault ``expected `route` `` or the like at the token that isn't allowed
 /// there; at a literal that is no path, `` expected a path that begins with `/` ``.
 pub fn parse_routes(tokens: &TokenStream) -> syn::Result<Punctuated<Route, Semi>>
     ensures { ListOutcome IsSyntaxError syntax_of_Route semi_syntax route_form (punctuation semicolon) tokens.now result }
@@ -52,7 +52,7 @@ fn lines(alloc: Global, text: &str) -> syn::Result<String> {
     Ok(lines)
 }
 
-/// Reads all of the input, writes the lines to the output, and answers the exit status.
+/// Reads all of the input, writes the lines to the output, and returns the exit status.
 fn run<R: Read + Drop, W: Write + Drop, V: Write + Drop>(
     alloc: Global,
     mut input: R,

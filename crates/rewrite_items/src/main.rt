@@ -2,7 +2,7 @@
 //! its whole crate, as `pub(crate)`.
 //!
 //! That are the functions among the items of the file and of its modules, and those of impls that are of no trait. Bodies stay closed,
-//! so what stands in one is as it was. It writes the tokens of the file on one line. The status is 0; 1 where the text is refused or
+//! so what is in one is as it was. It writes the tokens of the file on one line. The status is 0; 1 where the text is refused or
 //! can't be read or written, with a line on standard error.
 #![tactic(auto)]
 
@@ -28,7 +28,7 @@ fn rewritten(alloc: Global, text: &str) -> syn::Result<String> {
     Ok(line)
 }
 
-/// Reads all of the input, writes it rewritten, and answers the exit status.
+/// Reads all of the input, writes it rewritten, and returns the exit status.
 fn run<R: Read + Drop, W: Write + Drop, V: Write + Drop>(
     alloc: Global,
     mut input: R,

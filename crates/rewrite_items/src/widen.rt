@@ -6,7 +6,7 @@ use syn::item::Items;
 use syn::reader::read_tokens;
 use syn::{Error, File, ImplItem, Item, ItemImpl, ItemMod, TryClone, Visibility, parse2};
 
-/// So deep modules may stand in each other.
+/// The depth to which modules are walked.
 const DEPTH: usize = 100;
 
 /// Makes each private function of a file `pub(crate)`.
@@ -15,7 +15,7 @@ pub(crate) fn widen_file(file: &mut File, alloc: Global) -> syn::Result<()> {
     widen_items(&mut file.items, &vis, DEPTH, alloc)
 }
 
-/// The same of items, in modules too. So many of them may still stand in each other.
+/// The same of items, in modules too. The walk goes this many modules deeper.
 #[cycle(widen)]
 fn widen_items(
     items: &mut Vec<Item>,
@@ -34,7 +34,7 @@ fn widen_items(
     Ok(())
 }
 
-/// The same of a module: its items are kept as tokens, so they are opened, and kept as tokens again.
+/// The same of a module: its items are kept verbatim, so they are opened, and kept verbatim again.
 #[cycle(widen)]
 fn widen_module(
     module: &mut ItemMod,

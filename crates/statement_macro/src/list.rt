@@ -24,7 +24,7 @@ pub(crate) fn add_function(
     Ok(())
 }
 
-/// Adds what stands before the body: the name, the attributes and the parameters.
+/// Adds what is before the body: the name, the attributes and the parameters.
 fn add_head(lines: &mut String, function: &ItemFn, alloc: Global) -> syn::Result<()> {
     writeln!(lines, "fn {}", function.sig.ident.text())?;
     writeln!(lines, "attributes: {}", function.attrs.len())?;

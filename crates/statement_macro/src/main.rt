@@ -1,9 +1,9 @@
 //! What an attribute macro on functions does: reads a function from standard input, such as `#[a] fn p(x: u8) -> u8 { let y = x; y }`.
-//! Its body is kept as tokens, opened, changed, and kept as tokens again.
+//! Its body is kept verbatim, opened, changed, and kept verbatim again.
 //!
 //! It writes a line with the name, one with the number of attributes, one for each parameter but a variadic one, one for each
-//! statement (what it is, from which byte to which it stands, and its text), and one with the function whose body has no value: `;`
-//! stands behind a last expression that had none. The status is 0; 1 where the text is refused or can't be read or written, with a line
+//! statement (what it is, its byte range, and its text), and one with the function whose body has no value: `;`
+//! follows a last expression that had none. The status is 0; 1 where the text is refused or can't be read or written, with a line
 //! on standard error.
 #![tactic(auto)]
 
@@ -26,7 +26,7 @@ fn describe(alloc: Global, text: &str) -> syn::Result<String> {
     Ok(lines)
 }
 
-/// Reads all of the input, writes the lines to the output, and answers the exit status.
+/// Reads all of the input, writes the lines to the output, and returns the exit status.
 fn run<R: Read + Drop, W: Write + Drop, V: Write + Drop>(
     alloc: Global,
     mut input: R,

@@ -21,7 +21,7 @@ abbrev pub CanonicalOutcome : {E : Type 0} → (E → Type 0) → Rule → Strea
 CanonicalOutcome refusal k ts (Ok p) = visible ts ≡ true → IsCanonical k ts p
 CanonicalOutcome refusal k ts (Err e) = visible ts ≡ true → refusal e → Refused k ts
 
--- trees are derived from both, and the answer is true exactly where their normal forms are equal, which is exactly where
+-- trees are derived from both, and the result is true exactly where their normal forms are equal, which is exactly where
 -- their prints are equal, spans aside
 pub record IsSameForm (k : Rule) (a b : Stream) (answer : Bool) : Type 0 where
   pub left_tree : Syntax

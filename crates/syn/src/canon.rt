@@ -15,7 +15,7 @@ pub use wrappers::{NamedField, Stmts, UnnamedField};
 /// The canonical print of what the tokens spell: the print of the tree that the whole stream is read as.
 ///
 /// It is refused as `T`'s parser refuses the stream, at the same place, and where something is left over; else only where
-/// memory is. The stream is used up, whatever the answer.
+/// memory is. The stream is used up, whatever the result.
 pub fn canonical<T: Canonical + Drop>(tokens: TokenStream) -> Result<TokenStream>
     ensures canonical { CanonicalOutcome IsSyntaxError T.rule tokens result }
 {
@@ -29,7 +29,7 @@ pub fn canonical<T: Canonical + Drop>(tokens: TokenStream) -> Result<TokenStream
 /// Whether two streams spell the same, but for spans and for what no print keeps: whether the normal forms of their trees
 /// are equal, which is whether their canonical prints are, spans aside.
 ///
-/// It is refused where one of them is no `T`, or where memory is refused. Both streams are used up, whatever the answer.
+/// It is refused where one of them is no `T`, or where memory is refused. Both streams are used up, whatever the result.
 pub fn same_form<T: Canonical + Drop>(left: TokenStream, right: TokenStream) -> Result<bool>
     ensures same_form { SameFormOutcome IsSyntaxError T.rule left right result }
 {

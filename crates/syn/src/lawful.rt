@@ -1,4 +1,4 @@
-//! What has a canonical print. (The trait and the function `canonical` can't stand in one module: their names differ in
+//! What has a canonical print. (The trait and the function `canonical` can't be in one module: their names differ in
 //! the case alone.)
 ghost use Rattle.std.specs.Prelude.{◌≡◌};
 ghost use Rattle.syn_grammar.specs.Grammar as grammar;

@@ -65,6 +65,7 @@ pub mod lower {
     };
 }
 
+// Written by tools/kinds.py down to the next such comment; edits are lost.
 pub use syn_item::file::{File, Frontmatter};
 pub use syn_item::foreign::{
     ForeignItem, ForeignItemFn, ForeignItemMacro, ForeignItemStatic, ForeignItemType,
@@ -88,9 +89,11 @@ pub use syn_tree::item::{
     ConstModifiers, FnModifiers, ImplModifiers, ItemEnum, ItemStruct, ItemUnion, TraitModifiers,
     TypeModifiers,
 };
+// End of the part that tools/kinds.py writes.
 
 /// Items, members, signatures and trees of a use. `Items` is what the content of a module is, once it is opened.
 pub mod item {
+    // Written by tools/kinds.py down to the next such comment; edits are lost.
     pub use syn_item::foreign::{
         ForeignItem, ForeignItemFn, ForeignItemMacro, ForeignItemStatic, ForeignItemType,
         ItemForeignMod,
@@ -113,6 +116,7 @@ pub mod item {
         ConstModifiers, FnModifiers, ImplModifiers, ItemEnum, ItemStruct, ItemUnion,
         TraitModifiers, TypeModifiers,
     };
+    // End of the part that tools/kinds.py writes.
 }
 
 /// Files.
@@ -164,7 +168,7 @@ pub mod stmt {
     pub use syn_expr::stmt::{Block, Local, LocalInit, LocalModifiers, Stmt, StmtMacro};
 }
 
-/// Parts of trees that are kept as their tokens until they are opened.
+/// Parts of trees that are kept verbatim until they are opened.
 pub mod deferred {
     pub use syn_recognize::deferred::{
         BlockOf, Deferred, DeferredBlock, DeferredConstant, DeferredExpr, DeferredItem,

@@ -1,4 +1,4 @@
--- The laws of the grammar, of what was read and printed of a whole stream.
+-- The laws of the grammar, for a whole stream that was read and printed.
 use Rattle.std.proofs.Common.{◌≡◌, true, false, Some, None, sym, subst, ap, ◌∙◌, inl, inr}
 use Rattle.std.specs.Prelude.{Bool, IsTrue, ◌↔◌, List, Result, Ok, Err}
 use Rattle.std.specs.Result.{IsErrAnd}

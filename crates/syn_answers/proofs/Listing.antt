@@ -37,7 +37,7 @@ stepped a_bang (N.Literal l) r = refl
 stepped m (N.Punct p) r = refl
 stepped m (N.Group g) r = refl
 
--- behind the marker; and behind another tree
+-- after the marker; and after another tree
 pub past_marker : (m : Marker) (t : TokenTreeRef) (ts r : Stream) → ts ≡ before_next t r → marks m t ≡ true → past m ts ≡ r
 past_marker m t ts r e q = ap (past m) e ∙ stepped m t r ∙ ap (λ b. pick b r (past m r)) q
 
@@ -63,6 +63,7 @@ pub past_all : (m : Marker) (ts : Stream) (i n : ℕ) → n ≤ i → length ts 
 past_all m ts i n h e = ap (past m) (none_left ts (omega (arith, h, e)))
 
 -- ---- kinds
+-- Written by tools/kinds.py down to the next such comment; edits are lost.
 -- each kind is one of those of an item
 pub is_kind : (kind : ItemKind) → IsKind rules.item (rule_of kind)
 is_kind K.Const = refl
@@ -82,6 +83,8 @@ is_kind K.Union = refl
 is_kind K.Use = refl
 is_kind K.Verbatim = refl
 
+-- End of the part that tools/kinds.py writes.
+
 abbrev All : (Rule → Type 0) → List Rule → Type 0
 All P [] = Unit {0}
 All P (k ∷ ks) = P k × All P ks
@@ -94,11 +97,12 @@ one_of_all P (l ∷ ks) a k i = go (same_rule k l) refl (one_of_all P ks a.1 k) 
     go true e others i = subst P (sym (same_rule_eq k l e)) a.0
     go false e others i = others i
 
--- what this rule reads is kept as tokens
+-- an item that this rule reads is also read as a verbatim item
 abbrev Kept : Stream → Stream → Rule → Type 0
 Kept ts r k = (t : Syntax) → parse_rule k ts ≡ Some (Node t, r) → (u : Syntax) × (parse_rule rules.kept_item ts ≡ Some (u, r))
 
--- what none of the kinds reads is
+-- Written by tools/kinds.py down to the next such comment; edits are lost.
+-- an item that none of the kinds reads is read as a verbatim item
 pub kept : (ts : Stream) (s : Syntax) (r : Stream) → parse_rule rules.item ts ≡ Some (s, r) → NoneOf (K.Fn ∷ K.Struct ∷ K.Impl ∷ K.Enum ∷ K.Use ∷ []) ts →
     NoneOf (K.Const ∷ K.Mod ∷ K.Trait ∷ K.Ty ∷ K.Macro ∷ []) ts → NoneOf (K.Static ∷ K.ExternCrate ∷ K.ForeignMod ∷ K.Union ∷ K.TraitAlias ∷ []) ts → (t : Syntax) × (parse_rule rules.kept_item ts ≡ Some (t, r))
 kept ts s r e a b c =
@@ -111,6 +115,8 @@ kept ts s r e a b c =
 
     all : All (Kept ts r) (kinds_of (table rules.item))
     all = (no rules.structure a.1.0, (no rules.enumeration a.1.1.1.0, (no rules.union_item c.1.1.1.0, (no rules.function a.0, (no rules.const_item b.0, (no rules.static_item c.0, (no rules.extern_crate c.1.0, (no rules.use_item a.1.1.1.1.0, (no rules.module_item b.1.0, (no rules.trait_alias c.1.1.1.1.0, (no rules.type_item b.1.1.1.0, (no rules.macro_as_item b.1.1.1.1.0, (no rules.trait_definition b.1.1.0, (no rules.impl_definition a.1.1.0, (no rules.foreign_module c.1.1.0, (λ t f. (Node t, f), tt))))))))))))))))
+
+-- End of the part that tools/kinds.py writes.
 
 -- ---- a list
 pub begun : (ts m r : Stream) (l : List ListedItem) → m ≡ ts → l ≡ [] → ((a : Syntax) × (parse_rule rules.inner_attributes m ≡ Some (a, r))) → ListedSoFar ts (map entry_of l) r

@@ -23,18 +23,18 @@ abbrev pub CanonicalOutcome : {E : Type 0} → (E → Type 0) → Rule → Strea
 CanonicalOutcome refusal k ts (Ok p) = visible ts ≡ true → IsCanonical k ts p
 CanonicalOutcome refusal k ts (Err e) = visible ts ≡ true → refusal e → Refused k ts
 
--- s is what the grammar before derived: what is read now is s with its traits and impls with `const` as these kinds of items, and it is s
+-- s is a tree of the earlier grammar: the tree read now is s with its traits and impls with `const` as these kinds of items, and it is s
 -- where it has none
 abbrev pub StillPrinted : {E : Type 0} → (E → Type 0) → Syntax → Result Stream E → Type 0
 StillPrinted refusal s (Ok p) = (p ≡ print (lift s)) × (unmoved s ≡ true → p ≡ print s)
 StillPrinted refusal s (Err e) = refusal e → ⊥
 
--- what the grammar before derived is read still
+-- all that the earlier grammar derived is still read
 abbrev pub StillCanonical : {E : Type 0} → (E → Type 0) → Rule → Stream → Result Stream E → Type 0
 StillCanonical refusal k ts answer = (s : Syntax) → is_part k ≡ false → DerivesPrefix before (rule k) s ts end → StillPrinted refusal s answer
 
--- trees are derived from both, and the answer is true exactly where their normal forms are equal, which is exactly where
--- their prints are equal, spans aside
+-- trees are derived from both, and the result is true exactly where their normal forms are equal, which is exactly where their prints are
+-- equal, spans aside
 pub record IsSameForm (k : Rule) (a b : Stream) (answer : Bool) : Type 0 where
   pub left_tree : Syntax
   pub left_derived : Derives k a left_tree

@@ -6,8 +6,8 @@ use Rattle.syn_grammar.specs.Grammar.{Syntax}
 use Rattle.syn_grammar.specs.Joined.{prints, AllDerived, AllVisible, IsFileOf}
 use Rattle.syn_grammar.specs.Promises.{Refused}
 
--- of each piece an item is derived, and p is their prints, one behind the other; of it in turn a file is derived without attributes, whose
--- items have the same normal forms
+-- from each piece an item is derived, and p is their prints in order; from p in turn a file is derived without attributes, whose items have
+-- the same normal forms
 pub record IsJoined (pieces : List Stream) (p : Stream) : Type 0 where
   pub trees : List Syntax
   pub derived : AllDerived pieces trees
@@ -15,7 +15,7 @@ pub record IsJoined (pieces : List Stream) (p : Stream) : Type 0 where
   pub seen : visible p ≡ true
   pub as_a_file : IsFileOf p trees
 
--- of some piece no item is derived
+-- from some piece no item is derived
 abbrev pub SomeRefused : List Stream → Type 0
 SomeRefused [] = ⊥
 SomeRefused (a ∷ l) = Refused item a ⊎ SomeRefused l
@@ -24,8 +24,8 @@ abbrev pub JoinOutcome : {E : Type 0} → (E → Type 0) → List Stream → Res
 JoinOutcome refusal pieces (Ok p) = AllVisible pieces → IsJoined pieces p
 JoinOutcome refusal pieces (Err e) = AllVisible pieces → refusal e → SomeRefused pieces
 
--- IN A LOOP: these prints stand so far, and these pieces are left: whatever is derived of them is derived behind what stands; and where one
--- of them is refused, some piece is
+-- IN A LOOP: these prints were joined, and these pieces are left. The prints of what is derived from them follow those that were joined;
+-- and if one of them is refused, so is some piece.
 pub record JoinedSoFar (pieces rest : List Stream) (joined : Stream) : Type 0 where
   pub onward : (trees : List Syntax) → AllDerived rest trees → (all : List Syntax) × AllDerived pieces all × (prints all ≡ joined ⧺ prints trees)
   pub back : SomeRefused rest → SomeRefused pieces

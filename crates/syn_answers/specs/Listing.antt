@@ -1,4 +1,4 @@
--- WHAT `list_items` PROMISES, and the readings that it is made of, of any error type with its refusals.
+-- WHAT `list_items` PROMISES, and the readings it is composed of, of any error type with its refusals.
 use Rattle.std.specs.Prelude.{◌≡◌, ◌≢◌, Bool, true, false, List, [], ◌∷◌, Option, Some, None, Result, Ok, Err}
 use Rattle.syn_grammar.specs.Tokens.{Stream, ident}
 use Rattle.syn_grammar.specs.Rules as rules
@@ -19,6 +19,7 @@ use Rattle.syn_answers.specs.declared.names.Marker.TheVariants as M
 
 -- KINDS AND NAMES
 
+-- Written by tools/kinds.py down to the next such comment; edits are lost.
 -- the rule that reads items of this kind
 abbrev pub rule_of : ItemKind → Rule
 rule_of K.Const = rules.const_item
@@ -38,18 +39,20 @@ rule_of K.Union = rules.union_item
 rule_of K.Use = rules.use_item
 rule_of K.Verbatim = rules.kept_item
 
+-- End of the part that tools/kinds.py writes.
+
 -- an identifier as a name
 abbrev pub name_of : Option IdentValue → Option Name
 name_of (Some i) = Some (i.text, at i.span)
 name_of None = None
 
--- what an entry of the list says of an item
+-- the kind and name that an entry of the list gives for an item
 abbrev pub entry_of : ListedItem → Listed
 entry_of i = (rule_of i.kind, name_of i.name)
 
 -- READINGS
 
--- an item of this kind was read, or it is none, and nothing was read; of what is kept as tokens nothing is said
+-- an item of this kind was read, or there is none and nothing was read; nothing is promised of verbatim items
 abbrev pub KindTried : {E : Type 0} → (E → Type 0) → ItemKind → Stream → Result Bool E → Stream → Type 0
 KindTried refusal kind old (Ok true) new = (s : Syntax) × (parse_rule (rule_of kind) old ≡ Some (s, new))
 KindTried refusal kind old (Ok false) new = (kind ≢ K.Verbatim → parse_rule (rule_of kind) old ≡ None) × (new ≡ old)
@@ -60,7 +63,7 @@ abbrev pub NoneOf : List ItemKind → Stream → Type 0
 NoneOf [] ts = Unit {0}
 NoneOf (k ∷ ks) ts = (parse_rule (rule_of k) ts ≡ None) × NoneOf ks ts
 
--- an item was read as some kind; or as none of these, and nothing was read
+-- an item was read as some kind; or it is of none of these, and nothing was read
 abbrev pub KindsTried : {E : Type 0} → (E → Type 0) → List ItemKind → Stream → Result (Option ItemKind) E → Stream → Type 0
 KindsTried refusal kinds old (Ok (Some kind)) new = (s : Syntax) × (parse_rule (rule_of kind) old ≡ Some (s, new))
 KindsTried refusal kinds old (Ok None) new = NoneOf kinds old × (new ≡ old)
@@ -71,7 +74,7 @@ abbrev pub KindRead : {E : Type 0} → (E → Type 0) → Stream → Result Item
 KindRead refusal old (Ok kind) new = (s : Syntax) × (parse_rule (rule_of kind) old ≡ Some (s, new))
 KindRead refusal old (Err e) new = refusal e → parse_rule rules.item old ≡ None
 
--- and its name is the one that stands ahead
+-- and its name is the one found ahead
 abbrev pub ItemRead : {E : Type 0} → (E → Type 0) → Stream → Result ListedItem E → Stream → Type 0
 ItemRead refusal old (Ok item) new = (s : Syntax) × (parse_rule (rule_of item.kind) old ≡ Some (s, new)) × (name_of item.name ≡ name_ahead (rule_of item.kind) old)
 ItemRead refusal old (Err e) new = refusal e → parse_rule rules.item old ≡ None

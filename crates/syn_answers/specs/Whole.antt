@@ -6,7 +6,7 @@ use Rattle.syn_grammar.specs.Grammar.{Syntax, print}
 use Rattle.syn_grammar.specs.Run.{parse_rule}
 use Rattle.syn_recognize.specs.DeferredTokens.{whole_only}
 
--- the rule reads the whole stream, and p is what is printed of it
+-- the rule reads the whole stream, and p is the print of its tree
 abbrev pub IsWholePrint : Rule → Stream → Stream → Type 0
 IsWholePrint k ts p = (s : Syntax) × (parse_rule k ts ≡ Some (s, end)) × (p ≡ print s)
 

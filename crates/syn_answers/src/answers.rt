@@ -14,7 +14,7 @@ use syn_recognize::{Rule, printed_by, read_by};
 use syn_tokens::error::Result;
 use syn_tokens::stream::TokenStream;
 
-/// What the rule reads of the whole stream, as it is printed.
+/// The print of the whole stream, as the rule reads it.
 fn printed_to_end(rule: Rule, tokens: &TokenStream) -> Parsed<TokenStream>
     ensures { WholePrint IsSyntax (rule_of rule) tokens.now result }
 {
@@ -24,7 +24,7 @@ fn printed_to_end(rule: Rule, tokens: &TokenStream) -> Parsed<TokenStream>
     Ok(printed)
 }
 
-/// What the rule reads of the whole stream, as it is printed, with the faults that more than a token tells.
+/// The print of the whole stream, as the rule reads it, with the error messages that depend on several tokens.
 fn printed_whole(rule: Rule, tokens: &TokenStream) -> Parsed<TokenStream>
     ensures { WholePrint IsSyntax (rule_of rule) tokens.now result }
 {
@@ -34,7 +34,7 @@ fn printed_whole(rule: Rule, tokens: &TokenStream) -> Parsed<TokenStream>
     }
 }
 
-/// Whether the rule reads the whole stream. Nothing is kept of it.
+/// Whether the rule reads the whole stream. Stores none of it.
 fn read_to_end(rule: Rule, tokens: &TokenStream) -> Parsed<()>
     ensures { WholeRead IsSyntax (rule_of rule) tokens.now result }
 {
@@ -44,7 +44,7 @@ fn read_to_end(rule: Rule, tokens: &TokenStream) -> Parsed<()>
     Ok(())
 }
 
-/// Whether the rule reads the whole stream, with the faults that more than a token tells.
+/// Whether the rule reads the whole stream, with the error messages that depend on several tokens.
 fn read_whole(rule: Rule, tokens: &TokenStream) -> Parsed<()>
     ensures { WholeRead IsSyntax (rule_of rule) tokens.now result }
 {
@@ -54,14 +54,13 @@ fn read_whole(rule: Rule, tokens: &TokenStream) -> Parsed<()>
     }
 }
 
-/// The canonical print of what the tokens spell: the print of the tree that the rule derives of the whole stream.
+/// The canonical print of what the tokens spell: the print of the tree that the rule derives from the whole stream.
 ///
-/// It is refused where the rule derives none: with a fault at a token that can't stand there, or at the first token that is
-/// left over; else only where memory is. The stream is used up, whatever the answer. It takes no stack, however deep the
-/// stream is nested.
+/// Fails where the rule derives none: with an error at the first token that it doesn't accept or that is left over; otherwise only where
+/// memory is refused. The stream is used up, whatever the result. Takes no stack, however deeply the stream is nested.
 ///
-/// What the grammar before traits and impls with `const` became kinds of items reads is read still (`still_derives`), and where none
-/// stands in it, its print is as it was (`lift_keeps`).
+/// Everything accepted before `const` traits and impls is still accepted (`still_derives`), and its print is unchanged where it has none of
+/// them (`lift_keeps`).
 #[tactic(auto, using(crate::proofs::Canons::canonical_of))]
 pub fn canonical_by(rule: Rule, tokens: TokenStream) -> Result<TokenStream>
     ensures canonical { CanonicalOutcome IsSyntaxError (rule_of rule) tokens result }
@@ -70,8 +69,7 @@ pub fn canonical_by(rule: Rule, tokens: TokenStream) -> Result<TokenStream>
     Ok(printed_whole(rule, &tokens)?)
 }
 
-/// Whether the rule derives a tree of the whole stream: refused as `canonical_by` refuses it. Nothing is written, and the tokens
-/// are read once.
+/// Whether the rule derives a tree from the whole stream; fails where `canonical_by` fails. Writes nothing, and reads the tokens once.
 #[tactic(auto, using(crate::proofs::Canons::derived_of))]
 pub fn derived_by(rule: Rule, tokens: TokenStream) -> Result<()>
     ensures derived { WholeOutcome IsSyntaxError (rule_of rule) tokens result }
@@ -79,11 +77,10 @@ pub fn derived_by(rule: Rule, tokens: TokenStream) -> Result<()>
     Ok(read_whole(rule, &tokens)?)
 }
 
-/// Whether two streams spell the same, but for spans and for what no print keeps: whether the normal forms of the trees that
-/// the rule derives of them are equal, which is whether their canonical prints are, spans aside.
+/// Whether two streams spell the same, apart from spans and what no print preserves: whether the normal forms of the trees that the rule
+/// derives from them are equal, which is whether their canonical prints are, spans aside.
 ///
-/// It is refused where the rule derives none of one of them, or where memory is refused. Both streams are used up, whatever
-/// the answer.
+/// Fails where the rule derives no tree from one of them, or where memory is refused. Both streams are used up, whatever the result.
 #[tactic(auto, using(crate::proofs::Canons::same_form_of))]
 pub fn same_form_by(rule: Rule, left: TokenStream, right: TokenStream) -> Result<bool>
     ensures same_form { SameFormOutcome IsSyntaxError (rule_of rule) left right result }
@@ -93,10 +90,9 @@ pub fn same_form_by(rule: Rule, left: TokenStream, right: TokenStream) -> Result
     Ok(left_print == right_print)
 }
 
-/// The items that these pieces spell, one in each, as one file: the canonical print of each piece, one behind the other. No pieces
-/// give no tokens.
+/// The items that these pieces spell, one each, as one file: the canonical prints of the pieces in order. No pieces give no tokens.
 ///
-/// It is refused where some piece spells no item, or where memory is refused.
+/// Fails where some piece spells no item, or where memory is refused.
 #[tactic(auto, using(crate::proofs::Joining::begins, crate::proofs::Joining::goes_on, crate::proofs::Joining::ends), unfolding(syn_recognize::specs::Names::rule_of))]
 pub fn join_items(alloc: Global, pieces: &[TokenStream]) -> Result<TokenStream>
     ensures joined { JoinOutcome IsSyntaxError pieces.now result }

@@ -1,5 +1,4 @@
-//! Faults that more than one token tells: what they say and where they begin depends on what stands before the token that can't stand
-//! there.
+//! Error messages that depend on the tokens before the unexpected one.
 ghost use Rattle.std.specs.Prelude.{◌↔◌};
 ghost use Rattle.syn_parse.specs.Refusals.{IsSyntax};
 
@@ -17,14 +16,14 @@ use syn_recognize::Rule;
 use syn_tokens::span::Span;
 use syn_tokens::stream::TokenStream;
 
-/// Where a fault begins, and what it says.
+/// The place and the text of an error.
 #[derive(Clone, Copy, Debug)]
 pub(crate) struct Fault {
     pub span: Span,
     pub text: &'static str,
 }
 
-/// What could have stood where a token can't, of what tells of one of these faults.
+/// What was expected at the unexpected token, in errors whose message depends on the tokens before it.
 #[derive(Clone, Copy, Debug)]
 enum Expected {
     Identifier,
@@ -35,12 +34,12 @@ enum Expected {
 }
 
 impl Expected {
-    /// What a refusal of this text expected.
+    /// The expectation that a refusal with this text reports.
     fn from_text(text: &str) -> Option<Expected> {
         match text {
             "expected identifier" => Some(Expected::Identifier),
             "unexpected end of input, expected identifier" => Some(Expected::Identifier),
-            // This is said of a `[` where a path of a trait is expected.
+            // The text at a `[` where the path of a trait is expected.
             "`const` bounds are not read here" => Some(Expected::Identifier),
             "expected `for`" => Some(Expected::For),
             "unexpected end of input, expected `for`" => Some(Expected::For),
@@ -51,8 +50,8 @@ impl Expected {
     }
 }
 
-/// The refusal of a stream by this rule, with the text and the place of the fault by what stands before it. It takes no memory, and goes
-/// once past what stands before the fault.
+/// The refusal of a stream by this rule, with the text and the place that the tokens before the error give. Takes no memory, and passes the
+/// tokens before the error once.
 pub(crate) fn told(refusal: Refusal, rule: Rule, tokens: &TokenStream) -> Refusal
     ensures { IsSyntax result ↔ IsSyntax refusal }
 {
@@ -68,7 +67,7 @@ pub(crate) fn told(refusal: Refusal, rule: Rule, tokens: &TokenStream) -> Refusa
     }
 }
 
-/// The fault that this one is, by what stands before it.
+/// The error that this one is, given the tokens before it.
 fn fault_of(fault: Fault, rule: Rule, tokens: &TokenStream) -> Fault {
     let Some(expected) = Expected::from_text(fault.text) else {
         return fault;
@@ -83,7 +82,7 @@ fn fault_of(fault: Fault, rule: Rule, tokens: &TokenStream) -> Fault {
     known.unwrap_or(fault)
 }
 
-/// The fault of what is no identifier, here at this place.
+/// The error of a missing identifier at this place.
 fn no_name(span: Span, place: &Place<'_>) -> Option<Fault> {
     if place.before == Before::As && matches!(&place.context, Context::Use) {
         Some(Fault {
@@ -95,7 +94,7 @@ fn no_name(span: Span, place: &Place<'_>) -> Option<Fault> {
     }
 }
 
-/// The fault of what is left over, here at this place.
+/// The error of tokens left over at this place.
 fn left_over(span: Span, rule: Rule, place: &Place<'_>, tokens: &TokenStream) -> Option<Fault> {
     match rule {
         Rule::RECEIVER => path_in_place_of_receiver(span.start, &tokens.cursor()),

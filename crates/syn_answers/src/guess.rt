@@ -1,16 +1,16 @@
-//! What an item looks like. A guess decides nothing: it is what is tried first.
+//! What an item looks like. A guess decides nothing: it only selects the kind that is tried first.
 use crate::list::ItemKind;
 use syn_tokens::delimiter::Delimiter;
 use syn_tokens::stream::cursor::{Cursor, TokenTreeRef};
 
-/// The kind that the first words tell which stand in no group. It looks no further than to the end of the item.
+/// The kind that the first words outside of groups suggest. Looks no further than the end of the item.
 pub(crate) fn guess(trees: &Cursor<'_>) -> ItemKind {
     let mut rest = trees.fork();
     for _tree in 0..trees.len() {
         let Some((tree, behind)) = rest.split() else {
             return ItemKind::Verbatim;
         };
-        if let Some(kind) = told_by(&tree, &behind) {
+        if let Some(kind) = known_by(&tree, &behind) {
             return kind;
         }
         rest = behind;
@@ -18,10 +18,10 @@ pub(crate) fn guess(trees: &Cursor<'_>) -> ItemKind {
     ItemKind::Verbatim
 }
 
-/// What a tree tells of the item in which it stands, with what stands behind it.
-fn told_by(tree: &TokenTreeRef<'_>, behind: &Cursor<'_>) -> Option<ItemKind> {
+/// The kind that a tree and the trees after it suggest.
+fn known_by(tree: &TokenTreeRef<'_>, behind: &Cursor<'_>) -> Option<ItemKind> {
     match tree {
-        TokenTreeRef::Ident(ident) => told_by_word(ident.text(), behind),
+        TokenTreeRef::Ident(ident) => known_by_word(ident.text(), behind),
         TokenTreeRef::Literal(_) => None,
         TokenTreeRef::Punct(punct) => match punct.character() {
             '!' => Some(ItemKind::Macro),
@@ -35,8 +35,10 @@ fn told_by(tree: &TokenTreeRef<'_>, behind: &Cursor<'_>) -> Option<ItemKind> {
     }
 }
 
-/// What a word tells.
-fn told_by_word(word: &str, behind: &Cursor<'_>) -> Option<ItemKind> {
+// Written by tools/kinds.py down to the next such comment; edits are lost.
+
+/// The kind that a word suggests.
+fn known_by_word(word: &str, behind: &Cursor<'_>) -> Option<ItemKind> {
     match word {
         "crate" => Some(ItemKind::ExternCrate),
         "enum" => Some(ItemKind::Enum),
@@ -49,14 +51,16 @@ fn told_by_word(word: &str, behind: &Cursor<'_>) -> Option<ItemKind> {
         "trait" => Some(ItemKind::Trait),
         "type" => Some(ItemKind::Ty),
         "use" => Some(ItemKind::Use),
-        "const" => told_before_name(ItemKind::Const, behind),
-        "union" => told_before_name(ItemKind::Union, behind),
+        "const" => known_before_name(ItemKind::Const, behind),
+        "union" => known_before_name(ItemKind::Union, behind),
         _ => None,
     }
 }
 
-/// This kind, where a name stands next, or `_`.
-fn told_before_name(kind: ItemKind, behind: &Cursor<'_>) -> Option<ItemKind> {
+// End of the part that tools/kinds.py writes.
+
+/// This kind, if a name or `_` is next.
+fn known_before_name(kind: ItemKind, behind: &Cursor<'_>) -> Option<ItemKind> {
     let (ident, _) = behind.split_ident()?;
     match ident.text() {
         "_" => Some(kind),

@@ -1,5 +1,5 @@
-//! Canonical prints by recognition: what a rule reads is written again as it is printed, and no tree is made. So are files of
-//! items joined, and the items of a file listed.
+//! Canonical prints by recognition: the tokens that a rule reads are written again as they are printed, and no tree is built. Files of
+//! items are joined, and the items of a file listed, in the same way.
 #![tactic(auto)]
 
 pub mod answers;

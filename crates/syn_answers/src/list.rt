@@ -20,7 +20,9 @@ use syn_tokens::error::Result;
 use syn_tokens::ident::Ident;
 use syn_tokens::stream::TokenStream;
 
-/// The kinds of items, by what the trees of each are called.
+// Written by tools/kinds.py down to the next such comment; edits are lost.
+
+/// The kinds of items, named as their trees are.
 #[derive(Clone, Copy, Debug, PartialEq, Eq)]
 pub enum ItemKind {
     Const,
@@ -38,17 +40,21 @@ pub enum ItemKind {
     Ty,
     Union,
     Use,
-    /// What has no kind of its own, and is kept as its tokens.
+    /// An item without a kind of its own, which is stored verbatim.
     Verbatim,
 }
 
-/// The kind of an item, and its name. An impl, a use, a foreign module and what is kept as tokens have none, nor has a macro
-/// without a name behind its `!`; of a constant it may be `_`, of an extern crate `self`.
+// End of the part that tools/kinds.py writes.
+
+/// The kind of an item, and its name. An impl, a use, a foreign module and a verbatim item have none, nor has a macro without a name after
+/// its `!`. The name of a constant may be `_`, that of an extern crate `self`.
 #[derive(Debug, Drop)]
 pub struct ListedItem {
     pub kind: ItemKind,
     pub name: Option<Ident>,
 }
+
+// Written by tools/kinds.py down to the next such comment; edits are lost.
 
 /// The rule that reads items of this kind.
 #[tactic(auto, unfolding(syn_recognize::specs::Names::rule_of))]
@@ -75,7 +81,9 @@ fn rule_by(kind: ItemKind) -> Option<Rule>
     }
 }
 
-/// Reads an item of this kind, and says whether there was one; where there was none, nothing is read.
+// End of the part that tools/kinds.py writes.
+
+/// Reads an item of this kind, and returns whether there was one; if there was none, nothing is read.
 fn try_kind(kind: ItemKind, input: &mut ParseBuffer<'_>) -> Parsed<bool>
     ensures { KindTried IsSyntax kind input.old result input.new }
 {
@@ -93,7 +101,9 @@ fn try_kind(kind: ItemKind, input: &mut ParseBuffer<'_>) -> Parsed<bool>
     }
 }
 
-/// Reads an item of one of the kinds that are most common.
+// Written by tools/kinds.py down to the next such comment; edits are lost.
+
+/// Tries the most common kinds.
 fn try_common(input: &mut ParseBuffer<'_>) -> Parsed<Option<ItemKind>>
     ensures { KindsTried IsSyntax (K.Fn ∷ K.Struct ∷ K.Impl ∷ K.Enum ∷ K.Use ∷ []) input.old result input.new }
 {
@@ -115,7 +125,7 @@ fn try_common(input: &mut ParseBuffer<'_>) -> Parsed<Option<ItemKind>>
     Ok(None)
 }
 
-/// Reads an item of one of these kinds.
+/// Tries the kinds that are neither common nor rare.
 fn try_others(input: &mut ParseBuffer<'_>) -> Parsed<Option<ItemKind>>
     ensures { KindsTried IsSyntax (K.Const ∷ K.Mod ∷ K.Trait ∷ K.Ty ∷ K.Macro ∷ []) input.old result input.new }
 {
@@ -137,7 +147,7 @@ fn try_others(input: &mut ParseBuffer<'_>) -> Parsed<Option<ItemKind>>
     Ok(None)
 }
 
-/// Reads an item of one of the kinds that are rare.
+/// Tries the rarest kinds.
 fn try_rare(input: &mut ParseBuffer<'_>) -> Parsed<Option<ItemKind>>
     ensures { KindsTried IsSyntax (K.Static ∷ K.ExternCrate ∷ K.ForeignMod ∷ K.Union ∷ K.TraitAlias ∷ []) input.old result input.new }
 {
@@ -159,7 +169,9 @@ fn try_rare(input: &mut ParseBuffer<'_>) -> Parsed<Option<ItemKind>>
     Ok(None)
 }
 
-/// Reads an item of any kind, and says which it is: where none of the kinds reads it, it is kept as tokens.
+// End of the part that tools/kinds.py writes.
+
+/// Reads an item of any kind, and returns its kind: verbatim where none of the kinds reads it.
 #[tactic(auto, using(crate::proofs::Listing::kept), unfolding(syn_recognize::specs::Names::rule_of))]
 fn read_any(input: &mut ParseBuffer<'_>) -> Parsed<ItemKind>
     ensures { KindRead IsSyntax input.old result input.new }
@@ -177,7 +189,7 @@ fn read_any(input: &mut ParseBuffer<'_>) -> Parsed<ItemKind>
     Ok(ItemKind::Verbatim)
 }
 
-/// Reads an item, and says of which kind it is. It is tried first as what its words look like, so that most are read once.
+/// Reads an item, and returns its kind. The kind that its words suggest is tried first, so that most items are read once.
 fn read_kind(input: &mut ParseBuffer<'_>) -> Parsed<ItemKind>
     ensures { KindRead IsSyntax input.old result input.new }
 {
@@ -217,7 +229,7 @@ fn listed_to_end(tokens: &TokenStream) -> Parsed<Vec<ListedItem>>
     Err(Refusal::Memory(None))
 }
 
-/// The items of a whole file, with the faults that more than a token tells.
+/// The items of a whole file, with the error messages that depend on several tokens.
 #[tactic(auto, unfolding(syn_recognize::specs::Names::rule_of))]
 fn listed(tokens: &TokenStream) -> Parsed<Vec<ListedItem>>
     ensures listed { IfOk result (λ list. FileLists tokens.now (map entry_of list.items)) }
@@ -229,11 +241,9 @@ fn listed(tokens: &TokenStream) -> Parsed<Vec<ListedItem>>
     }
 }
 
-/// The items of the file that these tokens spell, in order: of each its kind and its name. No tree is made, and no stack is
-/// taken for what is nested.
+/// The items of the file that these tokens spell, in order: the kind and the name of each. Builds no tree, and takes no stack for nesting.
 ///
-/// It is refused where no file is derived of the whole stream, with a fault at a token that can't stand there; else only where
-/// memory is.
+/// Fails where no file is derived from the whole stream, with an error at the unexpected token; otherwise only where memory is refused.
 pub fn list_items(tokens: &TokenStream) -> Result<Vec<ListedItem>>
     ensures listed { IfOk result (λ list. visible tokens.now ≡ true → FileLists tokens.now (map entry_of list.items)) }
     ensures refused { IfErr result (λ e. visible tokens.now ≡ true → IsSyntaxError e → Refused rules.file tokens.now) }

@@ -1,4 +1,4 @@
-//! Where the names of items stand.
+//! The names of items, found ahead of reading.
 ghost use Rattle.std.specs.Prelude.{◌≡◌};
 ghost use Rattle.syn_grammar.specs.Listed as grammar;
 ghost use Rattle.syn_grammar.specs.Listed.{past};
@@ -12,7 +12,7 @@ use syn_parse::read::refusal::Parsed;
 use syn_tokens::ident::Ident;
 use syn_tokens::stream::cursor::{Cursor, TokenTreeRef};
 
-/// What stands before a name: a word, or the `!` of a macro.
+/// The token before a name: a word, or the `!` of a macro.
 #[derive(Clone, Copy, Debug)]
 pub(crate) enum Marker {
     Word(&'static str),
@@ -53,7 +53,7 @@ fn is_bang(tree: &TokenTreeRef<'_>) -> bool
     }
 }
 
-/// What stands behind the first marker that stands in no group; nothing where there is none.
+/// The trees after the first marker outside of groups; none where there is none.
 #[tactic(auto, using(crate::proofs::Listing::past_marker, crate::proofs::Listing::past_other, crate::proofs::Listing::one_shorter, crate::proofs::Listing::past_all))]
 fn behind<'a>(trees: &Cursor<'a>, marker: Marker) -> Cursor<'a>
     ensures { result ≡ past (marker_of marker) trees.now }
@@ -71,8 +71,8 @@ fn behind<'a>(trees: &Cursor<'a>, marker: Marker) -> Cursor<'a>
     Cursor::none()
 }
 
-/// What stands behind `mut`, where that stands next.
-pub(crate) fn behind_mut<'a>(trees: &Cursor<'a>) -> Cursor<'a>
+/// The trees after `mut`, if it is next.
+pub(crate) fn after_mut<'a>(trees: &Cursor<'a>) -> Cursor<'a>
     ensures { result ≡ grammar.past_mut trees.now }
 {
     let Some((ident, behind)) = trees.split_ident() else {
@@ -84,7 +84,7 @@ pub(crate) fn behind_mut<'a>(trees: &Cursor<'a>) -> Cursor<'a>
     trees.fork()
 }
 
-/// The identifier that stands next.
+/// The identifier that is next.
 fn name(trees: &Cursor<'_>) -> Parsed<Option<Ident>>
     ensures { OrMemory IsSyntax result (λ name. name_of name ≡ grammar.name_next trees.now) }
 {
@@ -94,12 +94,14 @@ fn name(trees: &Cursor<'_>) -> Parsed<Option<Ident>>
     }
 }
 
-/// The identifier that stands behind the first of these words that stands in no group.
+/// The identifier after the first of these words outside of groups.
 fn name_behind(trees: &Cursor<'_>, word: &'static str) -> Parsed<Option<Ident>>
     ensures { OrMemory IsSyntax result (λ name. name_of name ≡ grammar.name_past word.now trees.now) }
 {
     name(&behind(trees, Marker::Word(word)))
 }
+
+// Written by tools/kinds.py down to the next such comment; edits are lost.
 
 /// The name of the item of this kind that begins here.
 pub(crate) fn name_ahead(kind: ItemKind, input: &ParseBuffer<'_>) -> Parsed<Option<Ident>>
@@ -115,7 +117,7 @@ pub(crate) fn name_ahead(kind: ItemKind, input: &ParseBuffer<'_>) -> Parsed<Opti
         ItemKind::Impl => Ok(None),
         ItemKind::Macro => name(&behind(&trees, Marker::Bang)),
         ItemKind::Mod => name_behind(&trees, "mod"),
-        ItemKind::Static => name(&behind_mut(&behind(&trees, Marker::Word("static")))),
+        ItemKind::Static => name(&after_mut(&behind(&trees, Marker::Word("static")))),
         ItemKind::Struct => name_behind(&trees, "struct"),
         ItemKind::Trait => name_behind(&trees, "trait"),
         ItemKind::TraitAlias => name_behind(&trees, "trait"),
@@ -125,3 +127,5 @@ pub(crate) fn name_ahead(kind: ItemKind, input: &ParseBuffer<'_>) -> Parsed<Opti
         ItemKind::Verbatim => Ok(None),
     }
 }
+
+// End of the part that tools/kinds.py writes.

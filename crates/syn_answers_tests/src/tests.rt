@@ -1,4 +1,4 @@
-//! Items that are joined, items that are listed, and faults that more than one token tells.
+//! Items that are joined, items that are listed, and faults that depend on more than one token.
 mod faults;
 mod joined;
 mod listed;

@@ -7,7 +7,7 @@
 //!     syn_bench read ROUNDS    reads any source; of a round: text to tokens, and letting them go
 //!     syn_bench text ROUNDS    reads any source once; of a round: tokens to text, and letting that go
 //!
-//! The nanoseconds are a line on standard error for each round. At the end there stands on standard output: how many bytes
+//! The nanoseconds are a line on standard error for each round. At the end there is on standard output: how many bytes
 //! the text has; how many token trees the source has, a group counted as one; or the text.
 #![tactic(auto)]
 
@@ -26,7 +26,7 @@ use syn::reader::{read_tokens, token_text};
 use syn::token::TokenStream;
 use syn::{File, ToTokens};
 
-/// Why a run ends without its answer.
+/// Why a run ends without its result.
 #[derive(Drop)]
 enum Stop {
     Usage,
@@ -60,7 +60,7 @@ struct Times {
     drop: Duration,
 }
 
-/// Takes the source through all steps once, as a `T`, and tells how many bytes its text has.
+/// Takes the source through all steps once, as a `T`, and returns how many bytes its text has.
 fn round<T: Parse + ToTokens + Drop, C: Clock>(
     clock: &C,
     alloc: Global,
@@ -136,7 +136,7 @@ enum Task {
     Text,
 }
 
-/// What the words behind the program's name ask for, and how often.
+/// What the words after the program's name ask for, and how often.
 fn command(rt: &HostRuntime) -> Result<(Task, u32), Stop> {
     let mut words = env::args(rt)?.skip(1);
     let Some(first) = words.next() else {

@@ -1,4 +1,4 @@
--- What an error of the library says of a stream.
+-- What an error of the library implies for a stream.
 use Rattle.std.proofs.Common.{List, [], ◌∷◌}
 use Rattle.syn_grammar.specs.Tokens.{Stream}
 use Rattle.syn_grammar.specs.Rules.{Rule}

@@ -1,4 +1,4 @@
--- WHAT THE PROGRAM ANSWERS.
+-- WHAT THE PROGRAM PRINTS.
 use Rattle.std.specs.Prelude.{◌≡◌, ◌⊎◌, ℕ, List, ◌++◌, length, codes, Option, IfSome, String}
 use Rattle.std.specs.Str.{IsUtf8}
 use Rattle.std.specs.Io.KnownBytes.{Appends}
@@ -33,23 +33,24 @@ rule_for Listing = file
 abbrev pub IsDerived : Rule → Stream → Type 0
 IsDerived rule stream = (tree : Syntax) × Derives rule stream tree
 
--- AN ANSWER
+-- THE OUTPUT
 
--- what `print` writes of a stream: the text of its canonical print, and a newline
+-- the output of `print` for a stream: the text of its canonical print, and a newline
 abbrev pub IsPrinted : Rule → Stream → List ℕ → Type 0
 IsPrinted rule stream answer = (printed : Stream) × IsCanonical rule stream printed × (answer ≡ text_of printed ++ codes "\n")
 
--- what a command writes of a stream; `check` writes `ok` and a newline, where a tree is derived; `list` writes a line for each item of a file
+-- the output of a command for a stream; `check` writes `ok` and a newline, where a tree is derived; `list` writes a line for each item of a
+-- file
 abbrev pub IsWritten : Command → Stream → List ℕ → Type 0
 IsWritten (Print kind) stream answer = IsPrinted (rule_of kind) stream answer
 IsWritten (Check kind) stream answer = IsDerived (rule_of kind) stream × (answer ≡ codes "ok\n")
 IsWritten Listing stream answer = IsListed stream answer
 
--- the text is all that the reader had to give, where it is known what that is
+-- the text is all that the reader gives, where that is known
 abbrev pub IsRead : Option (List ℕ) → List ℕ → Type 0
 IsRead known text = IfSome known (λ bytes. text ≡ bytes)
 
--- the words are a command, a text was read that spells a stream, and this is what the command writes of it
+-- the words are a command, the text that was read spells a stream, and this is the command's output for it
 pub record IsAnswer (words : List (String Global)) (known : Option (List ℕ)) (answer : List ℕ) : Type 0 where
   pub command : Command
   pub is_command : IsCommand words command
@@ -59,7 +60,7 @@ pub record IsAnswer (words : List (String Global)) (known : Option (List ℕ)) (
   pub spelled : Spells text stream
   pub is_written : IsWritten command stream answer
 
--- NO ANSWER. Memory may be refused and a read may fail at any time, so of those two nothing is said.
+-- NO OUTPUT. Memory may be refused and a read may fail at any time, so nothing is promised of these two.
 
 -- why nothing is derived from a stream: the rule derives no tree
 abbrev pub IsUnderived : Rule → Stream → Failure → Type 0
@@ -67,19 +68,19 @@ IsUnderived rule stream (Refused faults) = IsSyntaxError faults × grammar.Refus
 IsUnderived rule stream OutOfMemory = Unit {0}
 IsUnderived rule stream _ = ⊥
 
--- why no text is read: what the reader had to give is no UTF-8
+-- why no text is read: the reader's bytes are no UTF-8
 abbrev pub IsUnread : Option (List ℕ) → Failure → Type 0
 IsUnread known NotUtf8 = IfSome known (λ bytes. ¬ IsUtf8 bytes)
 IsUnread known ReadFailed = Unit {0}
 IsUnread known OutOfMemory = Unit {0}
 IsUnread known _ = ⊥
 
--- The reader of text found one fault, which stands in the text (of when it does so no more is said here), or the text spells a
--- stream from which the rule derives no tree.
+-- The reader of text found one fault, whose place is in the text (when it does is not specified here), or the text spells a stream from
+-- which the rule derives no tree.
 abbrev pub IsRefusal : Rule → List ℕ → List FaultValue → Type 0
 IsRefusal rule text faults = IsFaultWithin (length text) faults ⊎ ((stream : Stream) × Spells text stream × grammar.Refused rule stream)
 
--- why there is no answer: the words are no command, or else no text is read, or it is refused
+-- why there is no output: the words are no command, or no text is read, or the text is refused
 abbrev pub IsNoAnswer : List (String Global) → Option (List ℕ) → Failure → Type 0
 IsNoAnswer words known Usage = NoCommand words
 IsNoAnswer words known (Refused faults) =
@@ -88,19 +89,19 @@ IsNoAnswer words known failure = IsUnread known failure
 
 -- A WHOLE RUN
 
--- the whole answer stands behind what the writer held, where it is known what that was
+-- the whole output follows what the writer held, where that is known
 pub record IsDone (words : List (String Global)) (known old new : Option (List ℕ)) : Type 0 where
   pub answer : List ℕ
   pub is_answer : IsAnswer words known answer
   pub is_written : Appends old new answer
 
--- why a run has not done it: there is no answer, or a write failed
+-- why a run has failed: there is no output, or a write failed
 abbrev pub IsUndone : List (String Global) → Option (List ℕ) → Failure → Type 0
 IsUndone words known WriteFailed = Unit {0}
 IsUndone words known failure = IsNoAnswer words known failure
 
--- A run has ended with the status of a failure for which there was a reason, and its line, with a newline, stands behind what
--- the writer held, where it is known what that was.
+-- A run ended with the status of a failure that had a reason, and its line, with a newline, follows what the writer held, where that is
+-- known.
 pub record IsTold (words : List (String Global)) (known : Option (List ℕ)) (status : ℕ) (old new : Option (List ℕ)) : Type 0 where
   pub failure : Failure
   pub is_undone : IsUndone words known failure

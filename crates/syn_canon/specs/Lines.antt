@@ -1,10 +1,13 @@
 -- THE LINES OF `list`.
 use Rattle.std.specs.Prelude.{◌≡◌, ℕ, List, [], ◌∷◌, ◌++◌, Option, Some, None, codes}
 use Rattle.syn_grammar.specs.Tokens.{Stream}
+-- Written by tools/kinds.py down to the next such comment; edits are lost.
 use Rattle.syn_grammar.specs.Rules.{Rule, structure, enumeration, union_item, function, const_item, static_item, extern_crate, use_item, module_item, trait_alias, type_item, macro_as_item, trait_definition, impl_definition, foreign_module}
+-- End of the part that tools/kinds.py writes.
 use Rattle.syn_grammar.specs.Listed.{Name, Listed, FileLists}
 
--- how a kind of items is written, by the rule that reads it; one that is kept as tokens is `verbatim`
+-- Written by tools/kinds.py down to the next such comment; edits are lost.
+-- how a kind of items is written, by the rule that reads it; `verbatim` for an item that is stored verbatim
 abbrev pub kind_word : Rule → List ℕ
 kind_word const_item = codes "const"
 kind_word enumeration = codes "enum"
@@ -22,6 +25,8 @@ kind_word type_item = codes "type"
 kind_word union_item = codes "union"
 kind_word use_item = codes "use"
 kind_word _ = codes "verbatim"
+
+-- End of the part that tools/kinds.py writes.
 
 -- how a name is written; `-` where there is none
 abbrev pub name_word : Option Name → List ℕ

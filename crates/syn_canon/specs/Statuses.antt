@@ -1,11 +1,11 @@
--- HOW THE PROGRAM ENDS WITHOUT AN ANSWER.
+-- HOW THE PROGRAM ENDS WITHOUT OUTPUT.
 use Rattle.std.specs.Prelude.{ℕ, List, [], ◌∷◌, ◌++◌, codes}
 use Rattle.std.specs.Fmt.{decimal}
 use Rattle.syn_tokens.specs.Faults.{FaultValue}
 use Rattle.syn_canon.specs.declared.failure.Failure.{Failure}
 use Rattle.syn_canon.specs.declared.failure.Failure.TheVariants.{Usage, ReadFailed, NotUtf8, Refused, WriteFailed, OutOfMemory}
 
--- the exit status: 1 for what is refused or can't be read or written, 2 for wrong words, 3 where memory is refused
+-- the exit status: 1 where the input is refused or a read or a write fails, 2 where the words are no command, 3 where memory is refused
 abbrev pub status_of : Failure → ℕ
 status_of Usage = 2
 status_of ReadFailed = 1
@@ -24,7 +24,7 @@ line_of (Refused (fault ∷ faults)) = codes "refused at " ++ (decimal fault.0.s
 line_of WriteFailed = codes "write failed"
 line_of OutOfMemory = codes "out of memory"
 
--- what an error of the library means: without a fault memory was refused
+-- what an error of the library means: memory was refused, if it has no fault
 abbrev pub failure_of : List FaultValue → Failure
 failure_of [] = OutOfMemory
 failure_of (fault ∷ faults) = Refused (fault ∷ faults)

@@ -15,6 +15,6 @@ words_of Listing = codes "list" ∷ []
 abbrev pub IsCommand : List (String Global) → Command → Type 0
 IsCommand words command = map string_bytes words ≡ words_of command
 
--- they are none
+-- these words are no command
 abbrev pub NoCommand : List (String Global) → Type 0
 NoCommand words = (command : Command) → IsCommand words command → ⊥

@@ -1,4 +1,4 @@
-//! What the program answers.
+//! What the program prints.
 ghost use Rattle.std.specs.Prelude.{◌≡◌, ◌↔◌, true, Err, IfOk, IfErr, OnOk, MatchResult, string_bytes};
 ghost use Rattle.std.specs.Str.{IsUtf8};
 ghost use Rattle.std.specs.Io.KnownBytes.{IsAtEnd};
@@ -19,8 +19,7 @@ use syn_answers::answers::{canonical_by, derived_by};
 use syn_reader::reader::{read_tokens, token_text};
 use syn_tokens::stream::TokenStream;
 
-/// What the words ask of the text in `input`: the whole text that is to be written. The words are looked at before
-/// anything is read.
+/// The whole output for these words and the text in `input`. The words are checked before anything is read.
 pub(crate) fn answer<R: Read>(
     alloc: Global,
     words: &[String],
@@ -35,7 +34,7 @@ pub(crate) fn answer<R: Read>(
     let command = Command::from_words(words).ok_or(Failure::Usage)?;
     let text = read_text(alloc, input)?;
     let tokens = read_tokens(alloc, text.as_str())?;
-    // The tokens have texts of their own, and what follows wants memory.
+    // The tokens have copies of their texts, and the steps after this need memory.
     drop(text);
     match command {
         Command::Print(kind) => print(kind, tokens),
@@ -47,7 +46,7 @@ pub(crate) fn answer<R: Read>(
     }
 }
 
-/// All that is to be read, as text.
+/// All of the input, as text.
 fn read_text<R: Read>(alloc: Global, input: &mut R) -> Result<String, Failure>
     ensures read { IfOk result (λ text. IsRead (R.remaining input.old) (string_bytes text)) }
     ensures end { OnOk result (IsAtEnd (R.remaining input.new)) }
@@ -71,7 +70,7 @@ fn print(kind: Kind, tokens: TokenStream) -> Result<String, Failure>
     Ok(text)
 }
 
-/// Whether the tokens are of the kind; no more is kept of them.
+/// Whether the tokens are of the kind; nothing else of them is stored.
 fn check(kind: Kind, tokens: TokenStream) -> Result<(), Failure>
     requires { visible tokens ≡ true }
     ensures ok { OnOk result (IsDerived (rule_of kind) tokens) }

@@ -1,22 +1,22 @@
-//! What the program is asked to do.
+//! The commands of the program.
 ghost use Rattle.std.specs.Prelude.{◌≡◌, MatchOption};
 ghost use Rattle.syn_canon.specs.Words.{IsCommand, NoCommand};
 
 use crate::kind::Kind;
 
-/// What is to be done with a text.
+/// A command on a text.
 #[derive(Clone, Copy, Debug, PartialEq, Eq)]
 pub(crate) enum Command {
-    /// To print it in its canonical form.
+    /// Prints it in its canonical form.
     Print(Kind),
-    /// To say whether it is of the kind.
+    /// Checks whether it is of the kind.
     Check(Kind),
-    /// To list the items of a file.
+    /// Lists the items of a file.
     List,
 }
 
 impl Command {
-    /// The command that the words after the program's name are, if they are one.
+    /// The command that the words after the program's name denote, if they denote one.
     pub(crate) fn from_words(words: &[String]) -> Option<Command>
         ensures { MatchOption result (NoCommand words.now) (IsCommand words.now) }
     {

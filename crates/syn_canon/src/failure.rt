@@ -1,4 +1,4 @@
-//! Why the program ends without an answer.
+//! Why the program ends without output.
 ghost use Rattle.std.specs.Prelude.{◌≡◌, ◌≢◌};
 ghost use Rattle.std.specs.IoError.{error_kind};
 ghost use Rattle.syn_canon.specs.Statuses.{status_of, failure_of};
@@ -9,7 +9,7 @@ use std::io::ErrorKind;
 use std::{fmt, io};
 use syn_tokens::error::Error;
 
-/// Why a run ends without an answer.
+/// Why a run ends without output.
 #[derive(Drop)]
 pub(crate) enum Failure {
     /// The words are no command.
@@ -23,7 +23,7 @@ pub(crate) enum Failure {
 }
 
 impl Failure {
-    /// What the system's error means: that memory was refused, or else this.
+    /// The failure of a system's error: `OutOfMemory` for refused memory, otherwise this one.
     pub(crate) fn from_io(error: &io::Error, otherwise: Failure) -> Failure
         ensures memory { error_kind error.now ≡ ErrorKind.OutOfMemory → result ≡ Failure.OutOfMemory }
         ensures other { error_kind error.now ≢ ErrorKind.OutOfMemory → result ≡ otherwise }

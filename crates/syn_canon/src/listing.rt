@@ -12,6 +12,8 @@ use std::alloc::Global;
 use syn_answers::list::{ItemKind, ListedItem, list_items};
 use syn_tokens::stream::TokenStream;
 
+// Written by tools/kinds.py down to the next such comment; edits are lost.
+
 /// How a kind of items is written.
 fn word_of(kind: ItemKind) -> &'static str
     ensures { result.now ≡ kind_word (rule_of kind) }
@@ -35,6 +37,8 @@ fn word_of(kind: ItemKind) -> &'static str
         ItemKind::Verbatim => "verbatim",
     }
 }
+
+// End of the part that tools/kinds.py writes.
 
 /// The line of an item: its kind, a space, its name, or `-` where it has none, and a newline.
 fn write_line(item: &ListedItem, text: &mut String) -> Result<(), Failure>

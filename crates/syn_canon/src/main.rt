@@ -28,15 +28,15 @@ use std::{env, io};
 /// How a run ends.
 #[derive(Clone, Copy, Debug, PartialEq, Eq)]
 pub struct Exit {
-    /// The exit status: 0 where the whole answer was written, 1 where the input was refused, or a read or a write failed, 2
-    /// where the words are no command, and 3 where memory was refused.
+    /// The exit status: 0 where the whole output was written, 1 where the input was refused, or a read or a write failed, 2 where the words
+    /// are no command, and 3 where memory was refused.
     pub status: u8,
-    /// Whether the line of a failure was written whole, and flushed. It is true where there was none to write.
+    /// Whether the line of a failure was written whole, and flushed. True where there was none to write.
     pub is_told: bool,
 }
 
-/// Does what the words after the program's name say with the text in `input`. The answer goes to `output` only once all of
-/// it is found; where there is none, one line that says why goes to `faults`, and a write of it that fails changes no status.
+/// Runs the command that the words after the program's name denote on the text in `input`. Writes to `output` only once the whole output is
+/// computed; on failure, writes one line with the reason to `faults`. A failed write of this line changes no status.
 pub fn run<R: Read, W: Output, V: Output>(
     alloc: Global,
     words: &[String],
@@ -50,7 +50,7 @@ pub fn run<R: Read, W: Output, V: Output>(
     ensures flushed { result.status ≡ 0 → W.pending output.new ≡ [] }
     ensures quiet { result.status ≡ 0 → faults.new ≡ faults.old }
     ensures told { result.is_told ≡ true → result.status ≢ 0 → IsTold words.now (R.remaining input.old) result.status (V.contents faults.old) (V.contents faults.new) }
-    ensures told_flushed { result.is_told ≡ true → result.status ≢ 0 → V.pending faults.new ≡ [] }
+    ensures known_flushed { result.is_told ≡ true → result.status ≢ 0 → V.pending faults.new ≡ [] }
     ensures unread { result.status ≡ 2 → input.new ≡ input.old }
     ensures unwritten { 2 ≤ result.status → output.new ≡ output.old }
 {
@@ -63,7 +63,7 @@ pub fn run<R: Read, W: Output, V: Output>(
     }
 }
 
-/// Reads the text, and writes the whole answer to it; where there is no answer, nothing is written.
+/// Reads the text, and writes the whole output; on failure nothing is written.
 fn carry_out<R: Read, W: Output>(
     alloc: Global,
     words: &[String],
@@ -84,7 +84,7 @@ fn carry_out<R: Read, W: Output>(
     }
 }
 
-/// Writes the text, and sees that it is passed on.
+/// Writes the text and flushes it.
 fn write_whole<W: Output>(output: &mut W, text: &str) -> io::Result<()>
     ensures written { OnOk result (Appends (W.contents output.old) (W.contents output.new) text.now) }
     ensures flushed { OnOk result (W.pending output.new ≡ []) }
@@ -93,7 +93,7 @@ fn write_whole<W: Output>(output: &mut W, text: &str) -> io::Result<()>
     output.flush_out()
 }
 
-/// Writes the failure's line, and answers its status, also where the line can't be written.
+/// Writes the failure's line, and returns its status, even if the line can't be written.
 fn report<V: Output>(faults: &mut V, failure: &Failure) -> Exit
     ensures status { result.status ≡ status_of failure.now }
     ensures told { result.is_told ≡ true → Appends (V.contents faults.old) (V.contents faults.new) (line_of failure.now ++ codes "\n") }
@@ -106,7 +106,7 @@ fn report<V: Output>(faults: &mut V, failure: &Failure) -> Exit
     }
 }
 
-/// Writes the line that says why there is no answer.
+/// Writes the line with the reason of a failure.
 fn write_line<V: Output>(faults: &mut V, failure: &Failure) -> io::Result<()>
     ensures written { OnOk result (Appends (V.contents faults.old) (V.contents faults.new) (line_of failure.now ++ codes "\n")) }
     ensures flushed { OnOk result (V.pending faults.new ≡ []) }

@@ -5,7 +5,7 @@ ghost use Rattle.std.specs.Io.KnownBytes.{Keeps};
 use std::io;
 use std::io::{BufWriter, Stderr, Stdout, Write};
 
-/// A writer of which it is known which bytes it holds back until it is flushed.
+/// A writer whose buffered bytes, which it holds back until it is flushed, are known.
 pub trait Output: Write {
     ghost use Rattle.std.specs.Prelude.{ℕ, List};
 

@@ -58,7 +58,7 @@ first_outer (a ∷ l) e = shown_by (outer_first (all (a ∷ l))) a l e
 outer_of : (l : List Attribute) → all_attributes_syntax l ≡ attributes_syntax l → every is_outer (all l) ≡ true
 outer_of l h = every_outer l (ap all_shown (sym h) ∙ shown_listed l)
 
--- behind outer ones
+-- after outer ones
 outer_front : (l m : List Attribute) (u : Syntax) → every is_outer (all l) ≡ true → shown_before is_outer u (all (l ++ m)) ≡ in_front l (shown_before is_outer u (all m))
 outer_front [] m u e = refl
 outer_front (a ∷ l) m u e = go (is_outer (syntax_of_Attribute a)) (outer_front l m u) e

@@ -85,7 +85,7 @@ pub unlike_path : (p s : Syntax) → is_path s ≡ false → same_syntax (Shaped
 unlike_path p (Shaped (expr Path) s) h = absurd (true≢false h)
 unlike_path p s h = refl
 
--- a name alone stands for its variable
+-- a name alone represents its variable
 pub named_hidden : (n : Syntax) → hidden n (named_path n) ≡ Nothing
 named_hidden n = ap (λ b. pick b Nothing (Node (named_path n))) (same_syntax_refl (named_path n))
 
@@ -95,7 +95,7 @@ alike true false to from = sym (to refl)
 alike false true to from = from refl
 alike false false to from = refl
 
--- spans tell nothing
+-- spans don't count
 plain_same : (s t : Syntax) → same_syntax (plain_syntax s) (plain_syntax t) ≡ same_syntax s t
 plain_same s t =
     alike (same_syntax (plain_syntax s) (plain_syntax t)) (same_syntax s t)
@@ -137,14 +137,14 @@ lone_told n e = go (same_syntax (named_path n) e) refl
     go true h = ap (λ s. Both (Right (plain_syntax n)) (Both (Right Nothing) s)) ((same_syntax_plain (named_path n) e).0 h)
     go false h = refl
 
-field_told : (m : Member-m.the_data) (c : Option Colon) (e : Syntax) → field_parts (plain_syntax (member_and_value (syntax_of_Member m) (sign c) e)) ≡ plain_syntax (Both (syntax_of_Member m) (Both (sign c) e))
+field_known : (m : Member-m.the_data) (c : Option Colon) (e : Syntax) → field_parts (plain_syntax (member_and_value (syntax_of_Member m) (sign c) e)) ≡ plain_syntax (Both (syntax_of_Member m) (Both (sign c) e))
 unfolding field_parts
-field_told (Member-m.Named i) (Some c) e = refl
-field_told (Member-m.Named i) None e = lone_told (syntax_of_ident i) e
-field_told (Member-m.Unnamed i) (Some c) e = refl
-field_told (Member-m.Unnamed i) None e = refl
+field_known (Member-m.Named i) (Some c) e = refl
+field_known (Member-m.Named i) None e = lone_told (syntax_of_ident i) e
+field_known (Member-m.Unnamed i) (Some c) e = refl
+field_known (Member-m.Unnamed i) None e = refl
 
 pub same_field : (m n : Member-m.the_data) (c d : Option Colon) (e f : Syntax) → same_syntax (member_and_value (syntax_of_Member m) (sign c) e) (member_and_value (syntax_of_Member n) (sign d) f)
     ≡ and (same_syntax (syntax_of_Member m) (syntax_of_Member n)) (and (same_syntax (sign c) (sign d)) (same_syntax e f))
 same_field m n c d e f =
-    told field_form field_parts _ _ (Both (syntax_of_Member m) (Both (sign c) e)) (Both (syntax_of_Member n) (Both (sign d) f)) (plain_field m c e) (plain_field n d f) (field_told m c e) (field_told n d f)
+    told field_form field_parts _ _ (Both (syntax_of_Member m) (Both (sign c) e)) (Both (syntax_of_Member n) (Both (sign d) f)) (plain_field m c e) (plain_field n d f) (field_known m c e) (field_known n d f)

@@ -87,7 +87,7 @@ module _ {T P : Type 0} (v : T → Syntax) (w : P → Syntax) where
 
 -- STATEMENTS
 
--- of what stands in order, each listed
+-- of what is in order, each listed
 listed_of : Syntax → Syntax
 listed_of (Both (Node s) l) = Node (Right (Shaped listed (Both s (listed_of l))))
 listed_of s = Node (Left Nothing)

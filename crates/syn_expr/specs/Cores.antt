@@ -1,4 +1,4 @@
--- What an expression stands for is a value of its own. (The proof stands here, since the trees of the parsers cite it.)
+-- What an expression represents is a value of its own. (The proof is here, since the trees of the parsers cite it.)
 use Rattle.std.proofs.Common.{◌≡◌, refl}
 use Rattle.syn_grammar.specs.Values.{core}
 use Rattle.syn_expr.specs.Expressions.{syntax_of_Expr}

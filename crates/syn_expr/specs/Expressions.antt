@@ -1,6 +1,6 @@
--- WHAT SYNTAX EXPRESSIONS STAND FOR, one level at a time, every field.
--- An expression is its variant, its attributes and its fields (`Shaped (expr variant) (Both attributes fields)`). An operand behind a sign, an
--- operator or a word stands in its rule's node; one before it doesn't.
+-- THE SYNTAX OF EXPRESSIONS, one level at a time, every field.
+-- An expression is its variant, its attributes and its fields (`Shaped (expr variant) (Both attributes fields)`). An operand after a sign, an
+-- operator or a word is in its rule's node; one before it isn't.
 use Rattle.std.specs.Prelude.{Bool, true, false, List, [], Option, Some, None}
 use Rattle.syn_grammar.specs.Tokens.{Paren, Brace, Bracket, call_site}
 use Rattle.syn_grammar.specs.Tokens as grammar
@@ -17,7 +17,7 @@ use Rattle.syn_lower.specs.Parts.{first, group_syntax, second}
 use Rattle.syn_lower.specs.Types.{syntax_of_lifetime, syntax_of_Type, tuple_elements}
 use Rattle.syn_lower.specs.Bodies.{attributes_before_body, body}
 use Rattle.syn_expr_parse.specs.Operators.{syntax_of_BinOp, syntax_of_UnOp}
-pub use Rattle.syn_expr_parse.specs.Parts.{array_elements, behind_else, block_behind_else, field_member, in_braces, method_arguments, token_of}
+pub use Rattle.syn_expr_parse.specs.Parts.{array_elements, after_else, block_after_else, field_member, in_braces, method_arguments, token_of}
 use Rattle.syn_expr_parse.specs.StructLiterals.{field_of, literal_of_parts}
 use Rattle.syn_pat.specs.Patterns.{path_of, syntax_of_Pat}
 use Rattle.syn_expr.specs.declared.expr.Expr.TheVariants as Expr-m
@@ -104,7 +104,7 @@ view_ExprReference a = Both (attributes_syntax a.attrs.items) (Both (and_syntax 
 abbrev pub view_ExprUnary : ExprUnary-in.Inside → Syntax
 view_ExprUnary a = Both (attributes_syntax a.attrs.items) (Both (syntax_of_UnOp a.op) (whole a.expr.value))
 
--- WHAT GOES ON BEHIND AN EXPRESSION
+-- AFTER AN EXPRESSION: postfixes and operators
 
 abbrev pub view_ExprCall : ExprCall-in.Inside → Syntax
 view_ExprCall a = Both (attributes_syntax a.attrs.items) (Both (syntax_of_Expr a.func.value) (group_syntax Paren a.paren_token (list_of whole comma_syntax a.args.pairs a.args.last)))
@@ -199,7 +199,7 @@ view_ExprForLoop a =
 abbrev pub view_ExprIf : ExprIf-in.Inside → Syntax
 view_ExprIf a =
     Both (attributes_syntax a.attrs.items) (Both (if_syntax a.if_token) (Both (whole a.cond.value) (Both a.then_branch
-    (maybe (λ p. Both (else_syntax p.0) (behind_else (syntax_of_Expr p.1.value))) a.else_branch))))
+    (maybe (λ p. Both (else_syntax p.0) (after_else (syntax_of_Expr p.1.value))) a.else_branch))))
 
 -- which of the two an expression is
 abbrev pub is_block : Syntax → Bool

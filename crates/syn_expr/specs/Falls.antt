@@ -17,7 +17,7 @@ use Rattle.syn_lower.specs.declared.member.Member.TheVariants as Member-m
 use Rattle.syn_lower.specs.Types.{syntax_of_Type, tuple_elements}
 use Rattle.syn_expr_parse.specs.StructLiterals.{field_of, hidden}
 use Rattle.syn_lower.specs.Bodies.{attributes_in_body, body, with_inner}
-use Rattle.syn_expr.specs.Expressions.{array_elements, behind_else, block_behind_else, method_arguments, syntax_of_Expr, whole, view_ExprArray, view_ExprAssign, view_ExprBinary, view_ExprBlock, view_ExprCall, view_ExprCast, view_ExprField, view_ExprForLoop, view_ExprGroup, view_ExprIf, view_ExprIndex, view_ExprLoop, view_ExprMethodCall, view_ExprParen, view_ExprReference, view_ExprRepeat, view_ExprReturn, view_ExprStruct, view_FieldValue, view_ExprTry, view_ExprTuple, view_ExprUnary, view_ExprUnsafe, view_ExprWhile}
+use Rattle.syn_expr.specs.Expressions.{array_elements, after_else, block_after_else, method_arguments, syntax_of_Expr, whole, view_ExprArray, view_ExprAssign, view_ExprBinary, view_ExprBlock, view_ExprCall, view_ExprCast, view_ExprField, view_ExprForLoop, view_ExprGroup, view_ExprIf, view_ExprIndex, view_ExprLoop, view_ExprMethodCall, view_ExprParen, view_ExprReference, view_ExprRepeat, view_ExprReturn, view_ExprStruct, view_FieldValue, view_ExprTry, view_ExprTuple, view_ExprUnary, view_ExprUnsafe, view_ExprWhile}
 use Rattle.syn_expr.specs.Statements.{diverging, statements_syntax, statement_of, view_Block, view_Local, view_LocalInit}
 use Rattle.syn_expr.specs.declared.expr.blocks.ExprBlock.TheDeep.{deep-Expr, deep-ExprStruct, deep-FieldValue, deep-ExprArray, deep-ExprAssign, deep-ExprBinary, deep-ExprBlock, deep-ExprCall, deep-ExprCast, deep-ExprField, deep-ExprForLoop, deep-ExprGroup, deep-ExprIf, deep-ExprIndex, deep-ExprLoop, deep-ExprMethodCall, deep-ExprParen, deep-ExprReference, deep-ExprRepeat, deep-ExprReturn, deep-ExprTry, deep-ExprTuple, deep-ExprUnary, deep-ExprUnsafe, deep-ExprWhile, deep-Block, deep-Stmt, deep-Local, deep-LocalInit}
 use Rattle.syn_expr.specs.declared.expr.Expr.TheVariants as Expr-m
@@ -223,11 +223,11 @@ falls_ExprWhile a = omega (arith, falls_Expr a.cond.value, inner_size (attribute
 pub falls_ExprForLoop : (a : ExprForLoop-in.Inside) → deep-ExprForLoop a ≤ tree_size (view_ExprForLoop a)
 falls_ExprForLoop a = omega (arith, falls_Expr a.expr.value, inner_size (attributes_in_body a.attrs.items) a.body)
 
-pub block_size : (s : Syntax) → tree_size s ≤ tree_size (block_behind_else s)
+pub block_size : (s : Syntax) → tree_size s ≤ tree_size (block_after_else s)
 block_size (Shaped (expr Block) s) = omega arith
 block_size s = omega arith
 
-pub else_size : (s : Syntax) → tree_size s ≤ tree_size (behind_else s)
+pub else_size : (s : Syntax) → tree_size s ≤ tree_size (after_else s)
 else_size (Shaped (expr If) s) = omega arith
 else_size s = omega (arith, block_size s)
 
@@ -236,7 +236,7 @@ falls_ExprIf a =
     omega (
       arith,
       falls_Expr a.cond.value,
-      maybe_falls (λ p. Both (else_syntax p.0) (behind_else (syntax_of_Expr p.1.value))) (λ p. max 0 (max (deep-Expr p.1.value) 0)) (λ p. omega (arith, falls_Expr p.1.value, else_size (syntax_of_Expr p.1.value))) a.else_branch,
+      maybe_falls (λ p. Both (else_syntax p.0) (after_else (syntax_of_Expr p.1.value))) (λ p. max 0 (max (deep-Expr p.1.value) 0)) (λ p. omega (arith, falls_Expr p.1.value, else_size (syntax_of_Expr p.1.value))) a.else_branch,
     )
 
 -- STATEMENTS
@@ -264,8 +264,8 @@ falls_LocalInit a =
     omega (
       arith,
       falls_Expr a.expr.value,
-      maybe_falls (λ p. Both (else_syntax p.0) (block_behind_else (syntax_of_Expr p.1.value))) (λ p. max 0 (max (deep-Expr p.1.value) 0)) (λ p. omega (arith, falls_Expr p.1.value, block_size (syntax_of_Expr p.1.value))) a.diverge,
-      diverging_size (maybe (λ p. Both (else_syntax p.0) (block_behind_else (syntax_of_Expr p.1.value))) a.diverge),
+      maybe_falls (λ p. Both (else_syntax p.0) (block_after_else (syntax_of_Expr p.1.value))) (λ p. max 0 (max (deep-Expr p.1.value) 0)) (λ p. omega (arith, falls_Expr p.1.value, block_size (syntax_of_Expr p.1.value))) a.diverge,
+      diverging_size (maybe (λ p. Both (else_syntax p.0) (block_after_else (syntax_of_Expr p.1.value))) a.diverge),
     )
 
 pub falls_Local : (a : Local-in.Inside) → deep-Local a ≤ tree_size (view_Local a)

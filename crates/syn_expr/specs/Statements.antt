@@ -1,4 +1,4 @@
--- WHAT SYNTAX BLOCKS AND STATEMENTS STAND FOR, one level at a time, every field.
+-- THE SYNTAX OF BLOCKS AND STATEMENTS, one level at a time, every field.
 use Rattle.std.specs.Prelude.{Bool, true, false, List, [], ◌∷◌}
 use Rattle.syn_grammar.specs.Tokens.{Brace}
 use Rattle.syn_grammar.specs.Shape.{Macro, expr, a_local, an_item, listed, said, said_macro, untagged}
@@ -10,7 +10,7 @@ use Rattle.syn_lower.specs.Attributes.{attributes_syntax}
 use Rattle.syn_lower.specs.Parts.{group_syntax}
 use Rattle.syn_expr_parse.specs.Parts.{statements_of}
 pub use Rattle.syn_expr_parse.specs.Parts.{diverging}
-use Rattle.syn_expr.specs.Expressions.{block_behind_else, syntax_of_Expr, whole}
+use Rattle.syn_expr.specs.Expressions.{block_after_else, syntax_of_Expr, whole}
 use Rattle.syn_pat.specs.Patterns.{local_pattern, syntax_of_Pat}
 use Rattle.syn_expr.specs.declared.expr.Expr.TheVariants as Expr-m
 use Rattle.syn_expr.specs.declared.stmt.Block.TheInside as Block-in
@@ -47,7 +47,7 @@ view_Local a =
 
 abbrev pub view_LocalInit : LocalInit-in.Inside → Syntax
 view_LocalInit a =
-    Both (eq_syntax a.eq_token) (Shaped untagged (Both (Such (whole a.expr.value)) (diverging (maybe (λ p. Both (else_syntax p.0) (block_behind_else (syntax_of_Expr p.1.value))) a.diverge))))
+    Both (eq_syntax a.eq_token) (Shaped untagged (Both (Such (whole a.expr.value)) (diverging (maybe (λ p. Both (else_syntax p.0) (block_after_else (syntax_of_Expr p.1.value))) a.diverge))))
 
 -- the expression that the value of a local is
 abbrev pub value_of_local : Syntax → Syntax

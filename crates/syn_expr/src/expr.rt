@@ -17,7 +17,7 @@ pub use structs::{ExprStruct, FieldValue};
 use syn_tokens::punctuated::Punctuated;
 use syn_tokens::stream::TokenStream;
 
-/// An expression. What stands left of an operator, of a call's arguments and the like is a part of it, so chains nest to the left.
+/// An expression. What precedes an operator, a call's arguments and the like is a part of it, so chains nest to the left.
 #[cycle(expressions)]
 pub enum Expr {
     /// `[a, b]`
@@ -74,13 +74,13 @@ pub enum Expr {
     Unary(ExprUnary),
     /// `unsafe { }`
     Unsafe(ExprUnsafe),
-    /// Tokens that are no expression: none, before a `;` that stands alone.
+    /// Tokens that are no expression: none, before a `;` alone.
     Verbatim(TokenStream),
     /// `while a { }`
     While(ExprWhile),
 }
 
-/// By hand: where it is derived, each crate that lets an expression go proves again how every type in it is let go.
+/// By hand: if it is derived, each crate that drops an expression proves the drops of all its types again.
 impl Drop for Expr {
     #[cycle(gone)]
     fn drop(self) {

@@ -1,4 +1,4 @@
-//! The syntax trees of expressions, blocks and statements, with their parsers, prints, copies and comparisons. Patterns and macros stand
+//! The syntax trees of expressions, blocks and statements, with their parsers, prints, copies and comparisons. Patterns and macros are
 //! below, in `syn_pat`.
 #![tactic(auto)]
 

@@ -183,9 +183,9 @@ impl Block {
         nested_statements::<Refusal>(input, (left, PhantomData))
     }
 
-    /// Parses statements up to the end of the group or stream. They may be none, and the last expression may stand without `;`.
+    /// Parses statements up to the end of the group or stream. They may be none, and the last expression needs no `;`.
     ///
-    /// Where something else than statements stands there, or memory is refused, the buffer stands where it stood.
+    /// If something else than statements is next, or memory is refused, the buffer is unchanged.
     #[tactic(auto, using(syn_parse::proofs::Refused::refused_by_syntax))]
     pub fn parse_within(input: &mut ParseBuffer<'_>) -> Result<Vec<Stmt>>
         ensures outcome { Outcome IsSyntaxError (λ v. statements_syntax v.items) (rule rules.statements) input.old result input.new }

@@ -31,9 +31,9 @@ pub struct Block {
 pub enum Stmt {
     /// `let a = b;`
     Local(Local),
-    /// An item, kept as its tokens.
+    /// An item, kept verbatim.
     Item(DeferredItem),
-    /// An expression, with `;` behind it or without it.
+    /// An expression, followed by `;` or without it.
     Expr(Expr, Option<Semi>),
     /// `m! { a }`, `m!(a);`
     Macro(StmtMacro),
@@ -64,7 +64,7 @@ impl LocalModifiers {
     }
 }
 
-/// The value of a local: `=`, an expression, and perhaps `else` and a block. Of a tree made by hand, anything else than a block behind
+/// The value of a local: `=`, an expression, and perhaps `else` and a block. Of a tree made by hand, anything else than a block after
 /// `else` is printed in braces.
 #[cycle(expressions)]
 #[derive(Drop)]
@@ -74,7 +74,7 @@ pub struct LocalInit {
     pub diverge: Option<(Else, Box<Expr>)>,
 }
 
-/// A macro as a statement: one with braces, or one with `;` behind it.
+/// A macro as a statement: one followed by braces, or one with `;`.
 #[derive(Drop)]
 pub struct StmtMacro {
     pub attrs: Vec<Attribute>,

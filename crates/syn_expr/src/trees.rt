@@ -18,7 +18,7 @@ ghost use Rattle.syn_lower.specs.Members.{syntax_of_Member};
 ghost use Rattle.syn_pat.specs.Patterns.{local_pattern, path_of, syntax_of_Pat};
 ghost use Rattle.syn_lower.specs.Bodies.{attributes_before_body, body as body_syntax};
 ghost use Rattle.syn_expr_parse.specs.Operators.{syntax_of_BinOp, syntax_of_UnOp};
-ghost use Rattle.syn_expr_parse.specs.Parts.{array_elements, behind_else, block_behind_else, diverging, field_member, label_syntax, method_arguments, statements_of, token_of};
+ghost use Rattle.syn_expr_parse.specs.Parts.{array_elements, after_else, block_after_else, diverging, field_member, label_syntax, method_arguments, statements_of, token_of};
 ghost use Rattle.syn_expr_parse.specs.Primary.{in_literal};
 ghost use Rattle.syn_expr_parse.specs.Spines.{spine_shown};
 ghost use Rattle.syn_expr_parse.specs.StructLiterals.{field_of, literal_of_parts, lone_field};
@@ -294,7 +294,7 @@ impl Trees for ExprTrees {
         else_branch: Option<(Else, Box<Expr>)>,
         alloc: Global,
     ) -> Parsed<Box<Expr>>
-        ensures { OrMemory IsSyntax result (λ x. syntax_of_Expr x.value ≡ new Choosing (Both (if_syntax if_token) (Both (Node (syntax_of_Expr cond.value)) (Both then_branch (maybe (λ p. Both (else_syntax p.0) (behind_else (syntax_of_Expr p.1.value))) else_branch))))) }
+        ensures { OrMemory IsSyntax result (λ x. syntax_of_Expr x.value ≡ new Choosing (Both (if_syntax if_token) (Both (Node (syntax_of_Expr cond.value)) (Both then_branch (maybe (λ p. Both (else_syntax p.0) (after_else (syntax_of_Expr p.1.value))) else_branch))))) }
     {
         boxed(
             Expr::If(ExprIf {
@@ -685,7 +685,7 @@ impl Trees for ExprTrees {
     }
 
     fn local_init(eq_token: Eq, expr: Box<Expr>, diverge: Option<(Else, Box<Expr>)>) -> LocalInit
-        ensures { result ≡ Both (eq_syntax eq_token) (Shaped untagged (Both (Such (Node (syntax_of_Expr expr.value))) (diverging (maybe (λ p. Both (else_syntax p.0) (block_behind_else (syntax_of_Expr p.1.value))) diverge)))) }
+        ensures { result ≡ Both (eq_syntax eq_token) (Shaped untagged (Both (Such (Node (syntax_of_Expr expr.value))) (diverging (maybe (λ p. Both (else_syntax p.0) (block_after_else (syntax_of_Expr p.1.value))) diverge)))) }
     {
         LocalInit {
             eq_token,

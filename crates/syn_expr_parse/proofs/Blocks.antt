@@ -17,10 +17,10 @@ use Rattle.syn_tokens.specs.InOrder.{in_order}
 use Rattle.syn_lower.specs.Attributes.{every, inner_attributes_syntax, inner_listed, is_inner, is_outer, none_listed, outer_listed, shown_before, syntax_of_Attribute}
 use Rattle.syn_lower.specs.declared.attr.Attribute.{Attribute}
 use Rattle.syn_lower.specs.Bodies.{attributes_before_body, attributes_in_body, listed_before, listed_inside, outer_first}
-use Rattle.syn_expr_parse.specs.Parts.{behind_else}
+use Rattle.syn_expr_parse.specs.Parts.{after_else}
 use Rattle.syn_expr_parse.specs.BlockForms.{if_form, labelled_as, loop_form, while_form, for_form}
 
--- one answer has one value
+-- one result has one value
 abbrev found : Syntax → Stream → Out
 found s r = Some (s, r)
 
@@ -31,7 +31,7 @@ one_value a b m r e =
 
 -- LOOPS
 
--- behind a label
+-- after a label
 pub labelled_loop : (l : Syntax) (o : Out) → wrap label (wrap (Both l) (wrap Right o)) ≡ wrap (with_label l) (wrap core o)
 labelled_loop l None = refl
 labelled_loop l (Some p) = refl
@@ -50,7 +50,7 @@ loops_are l ts = ap (λ o. wrap (with_label l) (wrap core o)) (loop_expression_i
     go false false x y None = refl
     go false false x y (Some p) = refl
 
--- by what stands next
+-- by the next token
 pub read_loop : (l : Syntax) (ts : Stream) → sees (at_word w_loop) ts ≡ true → wrap (with_label l) (wrap core (parse_rule loop_expression ts)) ≡ wrap (labelled_as Loop l) (parse_form loop_form ts)
 read_loop l ts h =
     loops_are l ts
@@ -75,7 +75,7 @@ read_for l ts h k =
 abbrev attribute : Grammar
 attribute = asking_punctuation pound & punctuation exclamation & inside Bracket (rule meta)
 
--- what stands behind the last attribute
+-- what follows the last attribute
 abbrev tail : Syntax → Syntax
 tail (Node (Left (Both a more))) = tail more
 tail (Node (Right s)) = s
@@ -84,7 +84,7 @@ tail s = s
 abbrev Known : ℕ → Type 0
 Known n = (m : Stream) (t : Syntax) (q : Stream) → run n inner_attributes m ≡ Some (t, q) → tail t ≡ Unshown Nothing
 
--- of what is read nothing stands there
+-- nothing is read
 read_tail : (n : ℕ) (ts : Stream) (s : Syntax) (r : Stream) → run n inner_attributes ts ≡ Some (s, r) → tail s ≡ Unshown Nothing
 unfolding run
 read_tail zero ts s r e = absurd (cc e)
@@ -116,15 +116,15 @@ read_if ts e r h = go (parse_form if_form ts) (if_expression_is ts)
         let j : e ≡ Shaped (expr If) (Both no_attributes p.0) = cc i in
         (Both no_attributes p.0, j)
 
--- an `if` behind `else`
-pub if_behind_else : (ts : Stream) (e : Syntax) (r : Stream) → parse_rule if_expression ts ≡ Some (Node e, r) → behind_else e ≡ Right (Node e)
-if_behind_else ts e r h =
+-- an `if` after `else`
+pub if_after_else : (ts : Stream) (e : Syntax) (r : Stream) → parse_rule if_expression ts ≡ Some (Node e, r) → after_else e ≡ Right (Node e)
+if_after_else ts e r h =
     let (s, i) = read_if ts e r h in
-    ap behind_else i ∙ sym (ap (λ z. Right (Node z)) i)
+    ap after_else i ∙ sym (ap (λ z. Right (Node z)) i)
 
 pub if_read : {T E : Type 0} (refusal : E → Type 0) (view : T → Syntax) (x : Out) (ts : Stream) (r : Result T E) (m : Stream) → sees at_brace ts ≡ false →
-    Computes refusal (λ e. Node (view e)) (parse_rule if_expression ts) r m → Computes refusal (λ e. behind_else (view e)) (branch (sees at_brace ts) x (parse_rule if_expression ts)) r m
-if_read refusal view x ts (Ok e) m h k = rw h (ap (wrap Right) k ∙ ap (λ s. Some (s, m)) (sym (if_behind_else ts (view e) m k)))
+    Computes refusal (λ e. Node (view e)) (parse_rule if_expression ts) r m → Computes refusal (λ e. after_else (view e)) (branch (sees at_brace ts) x (parse_rule if_expression ts)) r m
+if_read refusal view x ts (Ok e) m h k = rw h (ap (wrap Right) k ∙ ap (λ s. Some (s, m)) (sym (if_after_else ts (view e) m k)))
 if_read refusal view x ts (Err e) m h k = λ u. rw h (ap (wrap Right) (k u))
 
 -- ATTRIBUTES IN A BODY
@@ -141,7 +141,7 @@ pub none_inside : listed_inside Nothing ≡ none_listed
 unfolding listed_inside
 none_inside = refl
 
--- only those attributes leave nothing behind them that are all printed
+-- only those attributes leave nothing after them that are all printed
 abbrev all : List Attribute → Syntax
 all l = in_order syntax_of_Attribute l
 
@@ -162,7 +162,7 @@ inner_all (a ∷ l) h = go (every is_inner (all (a ∷ l))) refl
     go true e = refl
     go false e = absurd (cc (sym (shown_tail is_inner (pick (every is_inner (all (a ∷ l))) Nothing (all (a ∷ l))) (a ∷ l)) ∙ h, ap (λ b. Unshown (pick b Nothing (all (a ∷ l)))) e))
 
--- inner attributes stand behind no outer ones
+-- inner attributes follow no outer ones
 none_outer : (u : Syntax) (l : List Attribute) → every is_inner (all l) ≡ true → shown_before is_outer u (all l) ≡ Node (Right (Unshown u))
 none_outer u [] h = refl
 none_outer u (a ∷ l) h = go (is_outer (syntax_of_Attribute a)) (none_outer u l) h

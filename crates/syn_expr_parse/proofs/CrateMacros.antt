@@ -1,4 +1,4 @@
--- A macro of `crate` in braces as a statement alone: what its rule reads, by what stands behind it.
+-- A macro of `crate` in braces as a statement alone: what its rule reads, by what follows it.
 use Rattle.std.proofs.Common.{◌≡◌, Bool, true, false, [], ◌∷◌, Some, None, refl, sym, ap, ap₂, ◌∙◌}
 use Rattle.syn_grammar.specs.Words.{w_try, semicolon}
 use Rattle.syn_grammar.specs.Tokens.{Stream, Paren, Brace, Bracket, Look, pick}
@@ -39,7 +39,7 @@ crate_value p x b q =
     by_test (sees at_postfix_mark q) (Some (crate_item (parts (p ∷ x ∷ Right Nothing ∷ Node (Right (Right b)) ∷ [])), q))
     (follow (λ z t. Some (crate_statement (parts (p ∷ x ∷ Right (Right b) ∷ [])) z, t)) (parse_rule statement_end q))
 
--- by what stands behind the braces
+-- by what follows the braces
 module _ (a p x : Syntax) where
   abbrev as_read : Out → Out
   as_read o = pick (goes_on (wrap (in_braces p x) o)) (wrap (Shaped an_item) (wrap (item_value a p x) o)) (then_by (wrap (new Macro) (wrap (in_braces p x) o)) (unless_postfix false a))
@@ -126,6 +126,6 @@ module _ (ts m : Stream) (a : Syntax) (outer : parse_rule attributes ts ≡ Some
         ap (made a) crate_is ∙ read_so a p x braces
         ∙ ap₂ (λ o i. pick (goes_on o) (wrap (Shaped an_item) i) (then_by (wrap (new Macro) o) (unless_postfix false a))) (sym invoked) (sym item_is)
 
-  -- what goes on an expression behind it makes it an item
+  -- what continues an expression after it makes it an item
   pub crate_alone : made a (parse_rule crate_macro m) ≡ pick (goes_on (parse_rule macro_invocation m)) (item_statement ts) (crate_macro_statement false a m)
   crate_alone = let w = crate_pieces m crate in by_pieces w.path w.bang w.behind w.rest w.path_read w.bang_read w.brace

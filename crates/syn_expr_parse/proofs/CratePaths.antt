@@ -1,4 +1,4 @@
--- The path of a macro of `crate` in braces, and its `!`: what is read of them, and that the braces stand behind it.
+-- The path of a macro of `crate` in braces, and its `!`: what is read of them, and that the braces follow it.
 use Rattle.std.proofs.Common.{◌≡◌, Bool, true, false, [], ◌∷◌, nat_eq, Some, None, refl, sym, ap, subst, ◌∙◌, true≢false}
 use Rattle.std.proofs.lemmas.Bool.{eqb-true}
 use Rattle.syn_grammar.specs.Words.{colons, exclamation, not_equals, w_crate, w_self, w_Self_type, w_super}
@@ -60,7 +60,7 @@ word_of x sp = untag (Both (Token x sp) (untag Nothing))
 abbrev path_of : Leaf → Span → Syntax
 path_of x sp = Node (Both (Right Nothing) (Node (Both (word_of x sp) (Right Nothing))))
 
--- behind a word
+-- after a word
 abbrev more : Parser
 more n = branch (sees at_colons n) (and_then (take_mark colons n) (parse_rule module_words)) (Some (Nothing, n))
 

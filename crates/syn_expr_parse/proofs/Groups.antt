@@ -22,7 +22,7 @@ use Rattle.syn_expr_parse.specs.Parts.{array_elements}
 expressions_list : IsList expressions (of (rule whole_expression)) (by ended) (by (at_mark comma)) (of (mark false comma))
 expressions_list = record { is = expressions_is }
 
--- one step of reading them, behind others
+-- one step of reading them, after others
 module _ (f : Syntax → Syntax) (ts : Stream) where
   pub expressions_end : sees ended ts ≡ true → wrap f (parse_rule expressions ts) ≡ Some (f (Node (Left Nothing)), ts)
   expressions_end h = ap (wrap f) (list_end (λ s. s) comma_syntax expressions (of (rule whole_expression)) (by ended) (by (at_mark comma)) (of (mark false comma)) expressions_list ts h)
@@ -41,7 +41,7 @@ module _ (f : Syntax → Syntax) (ts : Stream) where
         wrap f (parse_rule expressions ts) ≡ wrap f (wrap (λ z. Node (Right (Both s (Left (Both (comma_syntax q) z))))) (parse_rule expressions n))
     expressions_more q n b c = ap (wrap f) (list_more (λ s. s) comma_syntax expressions (of (rule whole_expression)) (by ended) (by (at_mark comma)) (of (mark false comma)) expressions_list ts s q m n h a b c)
 
--- where they aren't one without a comma, expressions in parentheses are a tuple, and its elements are printed as they stand
+-- unless there is one without a comma, expressions in parentheses are a tuple, and its elements are printed as they are
 pub tuple_shape : {T : Type 0} (v : T → Syntax) (o c : Span) (l : List (T × Comma)) (last : Option T) → (l ≢ []) ⊎ (last ≡ None) → shape bracketed (Group Paren o c (list_of v comma_syntax l last)) ≡ new Tuple (Group Paren o c (tuple_elements (list_of v comma_syntax l last)))
 tuple_shape v o c [] None h = refl
 tuple_shape v o c [] (Some t) (inl n) = absurd (n refl)

@@ -1,4 +1,4 @@
--- Casts, comparisons, assignments, whole expressions, and what goes on behind an operand.
+-- Casts, comparisons, assignments, whole expressions, and what continues after an operand.
 use Rattle.std.proofs.Common.{◌≡◌, Bool, true, false, List, [], ◌∷◌, Some, None, refl, sym, ap, ◌∙◌}
 use Rattle.syn_grammar.specs.Words.{w_as, equals}
 use Rattle.syn_grammar.specs.Tokens.{Stream, pick, no, at_word}
@@ -13,7 +13,7 @@ use Rattle.syn_grammar.proofs.Shapes.{IsShaped, core_shaped, onto_shaped}
 use Rattle.syn_grammar.proofs.Each.{casts_is, cast_is, cast_head_is, compared_is, compared_head_is, comparison_is, comparison_head_is, assigned_is, assigned_head_is, whole_expression_is, whole_expression_head_is, operand_rest_is}
 use Rattle.syn_expr_parse.specs.Spots.{Spot, within}
 use Rattle.syn_expr_parse.specs.declared.parsing.nested.Spot.TheVariants as Spot-m
-use Rattle.syn_expr_parse.specs.Levels.{assignment_operators, comparison_operators, once_form, first_operator, going_once, chained_out, cast_out, assign_out, assigned_form, unfinished_out, whole_out, whole_form, then_core, rest_out, rest_rules, rest_form, IsLevel}
+use Rattle.syn_expr_parse.specs.Levels.{assignment_operators, comparison_operators, once_form, first_operator, continuing_once, chained_out, cast_out, assign_out, assigned_form, unfinished_out, whole_out, whole_form, then_core, rest_out, rest_rules, rest_form, IsLevel}
 use Rattle.syn_expr_parse.specs.LevelSteps.{through_node, from_left, from_right, onto_both, one, one_more, once_step, level_is, level_at}
 
 -- CASTS
@@ -33,7 +33,7 @@ cast_are Spot-m.Anywhere = level_is unary casts cast cast_is
 cast_are Spot-m.Head = level_is unary_head casts cast_head cast_head_is
 
 -- COMPARISONS
-pub compared_step : (p : Spot) (a : Syntax) (ts : Stream) → wrap (onto a) (parse_rule (within p compared) ts) ≡ going_once a ts (first_operator comparison_operators ts) (parse_rule (within p bit_or))
+pub compared_step : (p : Spot) (a : Syntax) (ts : Stream) → wrap (onto a) (parse_rule (within p compared) ts) ≡ continuing_once a ts (first_operator comparison_operators ts) (parse_rule (within p bit_or))
 compared_step Spot-m.Anywhere a ts = ap (wrap (onto a)) (compared_is ts) ∙ through_node a _ ∙ once_step bit_or a comparison_operators ts
 compared_step Spot-m.Head a ts = ap (wrap (onto a)) (compared_head_is ts) ∙ through_node a _ ∙ once_step bit_or_head a comparison_operators ts
 
@@ -43,7 +43,7 @@ comparison_are = level_at bit_or compared comparison comparison_is comparison_he
 -- ASSIGNMENTS
 -- with a value of this rule
 assigned_by : (k : Rule) (a : Syntax) (ts : Stream) → wrap (onto a) (parse_form (assigned_form k) ts)
-    ≡ pick (sees at_equals_operator ts) (assign_out k a (take_mark equals ts)) (going_once a ts (first_operator assignment_operators ts) (parse_rule k))
+    ≡ pick (sees at_equals_operator ts) (assign_out k a (take_mark equals ts)) (continuing_once a ts (first_operator assignment_operators ts) (parse_rule k))
 assigned_by k a ts =
     go (sees at_equals_operator ts) (take_mark equals ts) (parse_form (once_form assignment_operators k) ts)
     ∙ ap (pick (sees at_equals_operator ts) (assign_out k a (take_mark equals ts))) (once_step k a assignment_operators ts)
@@ -57,7 +57,7 @@ assigned_by k a ts =
     go false t o = from_right a o
 
 pub assigned_step : (p : Spot) (a : Syntax) (ts : Stream) → wrap (onto a) (parse_rule (within p assigned) ts)
-    ≡ pick (sees at_equals_operator ts) (assign_out (within p whole_expression) a (take_mark equals ts)) (going_once a ts (first_operator assignment_operators ts) (parse_rule (within p whole_expression)))
+    ≡ pick (sees at_equals_operator ts) (assign_out (within p whole_expression) a (take_mark equals ts)) (continuing_once a ts (first_operator assignment_operators ts) (parse_rule (within p whole_expression)))
 assigned_step Spot-m.Anywhere a ts = ap (wrap (onto a)) (assigned_is ts) ∙ through_node a _ ∙ assigned_by whole_expression a ts
 assigned_step Spot-m.Head a ts = ap (wrap (onto a)) (assigned_head_is ts) ∙ through_node a _ ∙ assigned_by whole_expression_head a ts
 
@@ -84,7 +84,7 @@ pub whole_are : (p : Spot) (ts : Stream) → parse_rule (within p whole_expressi
 whole_are Spot-m.Anywhere ts = whole_expression_is ts ∙ whole_by disjunction assigned ts
 whole_are Spot-m.Head ts = whole_expression_head_is ts ∙ whole_by disjunction_head assigned_head ts
 
--- WHAT GOES ON BEHIND AN OPERAND
+-- AFTER AN OPERAND: postfixes and operators
 
 -- a shape has nothing around it
 shaped_core : (s : Syntax) → IsShaped s → core s ≡ s

@@ -16,14 +16,14 @@ use Rattle.syn_recognize.proofs.Trailing.{trailing_brace_read}
 abbrev otherwise_form : Grammar
 otherwise_form = shaped untagged (when at_word w_else then diverging_form else empty)
 
--- what stands behind a value that doesn't end with braces
-behind_value : (c : Bool) (ts : Stream) → wrap untag (branch c (parse_form diverging_form ts) (Some (Nothing, ts))) ≡ pick (and c true) (wrap (Shaped untagged) (parse_form diverging_form ts)) (Some (Shaped untagged Nothing, ts))
-behind_value true ts = go (parse_form diverging_form ts)
+-- what follows a value that doesn't end with braces
+after_value : (c : Bool) (ts : Stream) → wrap untag (branch c (parse_form diverging_form ts) (Some (Nothing, ts))) ≡ pick (and c true) (wrap (Shaped untagged) (parse_form diverging_form ts)) (Some (Shaped untagged Nothing, ts))
+after_value true ts = go (parse_form diverging_form ts)
   where
     go : (o : Out) → wrap untag (wrap Left o) ≡ wrap (Shaped untagged) o
     go None = refl
     go (Some p) = refl
-behind_value false ts = refl
+after_value false ts = refl
 
 with_value : (sign e : Syntax) (b : Bool) (m : Stream) → wrap (Both sign) (wrap untag (first_of (and_then (only b (Some (Such e, m))) (parse_form no_else)) (and_then (only (no b) (Some (Such e, m))) (parse_form otherwise_form))))
     ≡ valued sign e (diverges b m)
@@ -32,7 +32,7 @@ with_value sign e true m = go (sees (at_word w_else) m)
     go : (c : Bool) → Some (Both sign (Shaped untagged (Both (Such e) (Shaped untagged Nothing))), m) ≡ valued sign e (pick (and c false) (wrap (Shaped untagged) (parse_form diverging_form m)) (Some (Shaped untagged Nothing, m)))
     go true = refl
     go false = refl
-with_value sign e false m = go (parse_form otherwise_form m) ∙ ap (valued sign e) (behind_value (sees (at_word w_else) m) m)
+with_value sign e false m = go (parse_form otherwise_form m) ∙ ap (valued sign e) (after_value (sees (at_word w_else) m) m)
   where
     go : (o : Out) → wrap (Both sign) (wrap untag (wrap Right (wrap (Both (Such e)) o))) ≡ valued sign e o
     go None = refl

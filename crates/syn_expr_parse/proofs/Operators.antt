@@ -39,7 +39,7 @@ below zero f i h e = absurd (omega (arith, h))
 below (suc n) f zero h e = first_true (f zero) _ e
 below (suc n) f (suc i) h e = below n (λ k. f (suc k)) i (omega (arith, h)) (second_true (f zero) _ e)
 
--- two tests that are told to answer alike
+-- two tests that are known to agree
 told_alike : (a b : Bool) → same_bool a b ≡ true → a ≡ b
 told_alike true b e = sym e
 told_alike false true e = absurd (true≢false (sym e))

@@ -1,4 +1,4 @@
--- What goes on an expression: what one step of the loop reads.
+-- What continues an expression: what one step of the loop reads.
 use Rattle.std.proofs.Common.{◌≡◌, Bool, true, false, List, [], ◌∷◌, Some, None, Result, Ok, Err, refl, sym, ap, ap₂, ◌∙◌, true≢false}
 use Rattle.syn_grammar.specs.Words.{Text, colons, dot}
 use Rattle.syn_grammar.specs.Tokens.{Span, Stream, end, leaf, punct, group, ident, literal, and, pick, Str, ByteStr, CStr, Byte, Char, Int, Float, at_literal}
@@ -16,7 +16,7 @@ use Rattle.syn_parse.proofs.FirstTokens.{no_literal_at_ident}
 use Rattle.syn_parse.proofs.Literals.{no_literal_seen}
 use Rattle.syn_lower.specs.TypeForms.{angle_bracketed_form}
 use Rattle.syn_expr_parse.specs.Parts.{method_arguments}
-use Rattle.syn_expr_parse.specs.Postfixes.{Link, arguments_form, behind_dot, behind_name, follow, generic_call_form, linked, links_form, named_form, postfix_links, then_more}
+use Rattle.syn_expr_parse.specs.Postfixes.{Link, arguments_form, after_dot, after_name, follow, generic_call_form, linked, links_form, named_form, postfix_links, then_more}
 
 through_node : (a : Syntax) (o : Out) → wrap (onto a) (wrap Node o) ≡ wrap (onto a) o
 through_node a None = refl
@@ -45,7 +45,7 @@ module _ (a : Syntax) (more : Rule) where
 pub postfixes_step : (a : Syntax) (ts : Stream) → wrap (onto a) (parse_rule postfixes ts) ≡ follow postfix_links a (parse_rule postfixes) ts
 postfixes_step a ts = ap (wrap (onto a)) (postfixes_is ts) ∙ through_node a _ ∙ links_step a postfixes postfix_links ts
 
--- GENERIC ARGUMENTS behind `::`
+-- GENERIC ARGUMENTS after `::`
 
 abbrev value_in : Out → Syntax
 value_in (Some p) = p.0
@@ -55,7 +55,7 @@ abbrev rest_in : Out → Stream
 rest_in (Some p) = p.1
 rest_in None = end
 
--- where `::` stands next
+-- if `::` is next
 abbrev behind_colons : Stream → Out
 behind_colons ts = and_then (wrap Left (take_mark colons ts)) (parse_rule generic_arguments)
 
@@ -115,7 +115,7 @@ number (leaf (literal Byte x) sp m) h = never (is_index x) (Token (literal Byte 
 number (leaf (literal Char x) sp m) h = never (is_index x) (Token (literal Char x) sp) m
 number (leaf (literal Float x) sp m) h = never (is_index x) (Token (literal Float x) sp) m
 
--- where a literal stands, a member is the number of a field, or nothing is read
+-- if a literal is next, a member is the number of a field, or nothing is read
 pub number_member : (ts : Stream) → sees at_any_literal ts ≡ true → parse_rule member ts ≡ wrap Node (wrap Left (take_token index ts))
 number_member ts h = member_is ts ∙ ap (wrap Node) (number ts h)
 
@@ -139,16 +139,16 @@ no_integer (leaf (literal Float x) sp m) h = refl
 pub named_member : (ts : Stream) → sees at_any_literal ts ≡ false → parse_rule member ts ≡ wrap Node (wrap Right (parse_form named_form ts))
 named_member ts h = member_is ts ∙ rw (no_integer ts h) refl
 
--- behind `.` and where no literal stands next
+-- after `.` and where no literal is next
 pub named_step : (b d : Syntax) (ts m : Stream) → take_mark dot ts ≡ Some (d, m) → sees at_any_literal m ≡ false →
-    linked dotted b (and_then (take_mark dot ts) (parse_rule member)) ≡ behind_dot b d (wrap Right (parse_form named_form m))
+    linked dotted b (and_then (take_mark dot ts) (parse_rule member)) ≡ after_dot b d (wrap Right (parse_form named_form m))
 named_step b d ts m e h = ap (λ o. linked dotted b (and_then o (parse_rule member))) e ∙ ap (λ o. linked dotted b (wrap (Both d) o)) (named_member m h)
 
 -- a call with generic arguments
 pub generic_called : (a d w generic s : Syntax) (ts r n : Stream) → sees at_colons ts ≡ true → parse_form angle_bracketed_form ts ≡ Some (generic, r) → parse_form arguments_form r ≡ Some (s, n) →
-    behind_name a d w (wrap Left (parse_form generic_call_form ts)) ≡ Some (new MethodCall (Both a (Both d (Node (Right (Both w (method_arguments (Some generic) s)))))), n)
+    after_name a d w (wrap Left (parse_form generic_call_form ts)) ≡ Some (new MethodCall (Both a (Both d (Node (Right (Both w (method_arguments (Some generic) s)))))), n)
 generic_called a d w generic s ts r n h e k =
-    ap (behind_name a d w) (generic_call_is ts generic r h e ∙ ap (wrap (method_arguments (Some generic))) k)
+    ap (after_name a d w) (generic_call_is ts generic r h e ∙ ap (wrap (method_arguments (Some generic))) k)
     ∙ ap (λ v. Some (new v (Both a (Both d (Node (Right (Both w (method_arguments (Some generic) s)))))), n)) (generic_variant d w generic s)
 
 -- what is made of what was read, where memory was there

@@ -93,7 +93,7 @@ primary_by p ts path h =
     (token_taken (word w_true) ts) (token_taken (word w_false) ts) (token_taken any_literal ts) (no_literals p ts path h)
     ∙ ap (λ b. pick b (wrap (new Lit) (wrap token_of (parse_form lit_form ts))) (no_literal p ts)) (literal_seen ts)
 
--- a path, and the braces behind it
+-- a path, and the braces after it
 with_braces : (o : Out) → wrap core (wrap (shape chain) (and_then (wrap (new Path) o) (parse_form braces_form))) ≡ then_by o behind_path
 with_braces None = refl
 with_braces (Some p) = go (sees at_brace p.1) (parse_form literal_form p.1)

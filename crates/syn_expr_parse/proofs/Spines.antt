@@ -17,7 +17,7 @@ use Rattle.syn_expr_parse.specs.Primary.{braces_form}
 use Rattle.syn_expr_parse.specs.Unary.{all_shown, own_shown}
 use Rattle.syn_expr_parse.specs.Spines.{spine_shown}
 
--- a new expression of what stands so far
+-- a new expression of what is parsed so far
 under : (v : Variant) (a p : Syntax) → spine_shown a ≡ true → spine_shown (new v (Both a p)) ≡ true
 under Binary a p e = e
 under Assign a p e = e
@@ -200,7 +200,7 @@ block_like_spine ts = subst Spined (sym (each.block_like_is ts))
     (by_node _ (by_choice _ (by_branch (sees (at_word w_if) ts) _ _ (if_spine ts) (by_branch (sees (at_word w_unsafe) ts) _ _ (by_new Unsafe (λ s. refl) _)
     (by_label (parse_form (when at_lifetime then lifetime & punctuation colon else empty) ts) _ (λ m. label_branch (sees at_brace m) _ _ (label_new Block (λ s. refl) _) (loop_spine m)))))))
 
--- a path, with braces behind it or without
+-- a path, followed by braces or without
 by_path : (o : Out) (q : Parser) → Spined (wrap (shape chain) (and_then (wrap (new Path) o) q))
 by_path None q = record { is = refl }
 by_path (Some p) q = go (q p.1)

@@ -11,7 +11,7 @@ use Rattle.syn_grammar.specs.Run.{wrap, and_then, branch, parse_rule, parse_form
 use Rattle.syn_grammar.proofs.Looks.{sees_mark}
 use Rattle.syn_expr_parse.specs.StatementForms.{then_by, ending, behind_block}
 
--- `;` is taken where it stands next
+-- `;` is taken where it is next
 semicolon_seen : (ts : Stream) → pick (sees at_semicolon ts) (wrap Left (take_mark semicolon ts)) None ≡ wrap Left (take_mark semicolon ts)
 semicolon_seen ts = rw (sees_mark semicolon refl ts) (go (take_mark semicolon ts))
   where

@@ -53,7 +53,7 @@ module _ (a : Syntax) where
   of_local None = refl
   of_local (Some p) = refl
 
-  -- each behind what it begins with
+  -- each after what it begins with
   macro_first : (o : Out) → made a (wrap (Shaped said_macro) (and_then (wrap (new Macro) o) (parse_rule statement_end))) ≡ then_by (wrap (new Macro) o) (behind_block false true a)
   macro_first None = refl
   macro_first (Some p) = of_macro p.0 p.1
@@ -81,7 +81,7 @@ core_stated a None = refl
 core_stated a (Some p) = let (j, t, e) = is_shaped attributed (Both a p.0) in ap (λ s. Some (Node s, p.1)) (ap core e ∙ sym e)
 
 module _ (ts m : Stream) (a : Syntax) (outer : parse_rule attributes ts ≡ Some (a, m)) where
-  -- where no item stands next
+  -- where no item is next
   other : (u v : Bool) → sees at_crate_macro m ≡ u → goes_on (parse_rule macro_invocation m) ≡ v →
       pick (sees at_crate_macro m) (made a (parse_rule crate_macro m)) (pick (sees at_brace_macro m) (macro_statement false a m)
       (pick (sees (at_word w_let) m) (wrap (Shaped a_local) (wrap (Both a) (parse_rule local m))) (expression_statement false a m)))
@@ -118,11 +118,11 @@ statement_alone ts = go (parse_rule attributes ts) refl
 pub statements_ended : (ts : Stream) → sees ended ts ≡ true → parse_rule statements ts ≡ Some (Node (Left Nothing), ts)
 statements_ended ts h = statements_is ts ∙ rw h refl
 
--- the statements behind one
+-- the statements after one
 abbrev pub more : Syntax → Stream → Out
 more s m = wrap (before_others s) (parse_rule statements m)
 
--- what is read behind a semicolon, or behind nothing
+-- what is read after a semicolon, or after nothing
 module _ (b : Bool) (a : Syntax) where
   -- as its value is built
   abbrev listed_as : Syntax → Out → Out
@@ -157,8 +157,8 @@ module _ (b : Bool) (a : Syntax) where
       go None = refl
       go (Some y) = refl
 
-  block_behind : (e : Syntax) (m : Stream) → listed_as e (parse_form (table after_block) m) ≡ then_by (behind_block true b a e m) more
-  block_behind e m = go (sees at_semicolon m) (sees at_postfix_mark m)
+  block_after : (e : Syntax) (m : Stream) → listed_as e (parse_form (table after_block) m) ≡ then_by (behind_block true b a e m) more
+  block_after e m = go (sees at_semicolon m) (sees at_postfix_mark m)
     where
       last : (z : Out) → listed_as e (wrap Right (wrap Right z)) ≡ wrap (before_others (sentence b (moved a e) (Right Nothing))) z
       last None = refl
@@ -170,7 +170,7 @@ module _ (b : Bool) (a : Syntax) where
       go false true = going_first e (parse_rule operand_rest m)
       go false false = last (parse_rule statements m)
 
--- attributes stand in their rule's node
+-- attributes are in their rule's node
 module _ (outer : Syntax) where
   abbrev a : Syntax
   a = Node outer
@@ -185,14 +185,14 @@ module _ (outer : Syntax) where
   built_branch false x (Some p) u v h k = k
 
   list_of_block : (s : Syntax) (m : Stream) → built (wrap (Shaped said) (wrap (Both s) (parse_rule after_block m))) ≡ then_by (behind_block true false a (core s) m) more
-  list_of_block s m = ap (λ o. built (wrap (Shaped said) (wrap (Both s) o))) (after_block_is m) ∙ go (parse_form (table after_block) m) ∙ block_behind false a (core s) m
+  list_of_block s m = ap (λ o. built (wrap (Shaped said) (wrap (Both s) o))) (after_block_is m) ∙ go (parse_form (table after_block) m) ∙ block_after false a (core s) m
     where
       go : (o : Out) → built (wrap (Shaped said) (wrap (Both s) (wrap Node o))) ≡ listed_as false a (core s) o
       go None = refl
       go (Some p) = refl
 
   list_of_macro : (s : Syntax) (m : Stream) → built (wrap (Shaped said_macro) (wrap (Both (new Macro s)) (parse_rule after_block m))) ≡ then_by (behind_block true true a (new Macro s) m) more
-  list_of_macro s m = ap (λ o. built (wrap (Shaped said_macro) (wrap (Both (new Macro s)) o))) (after_block_is m) ∙ go (parse_form (table after_block) m) ∙ block_behind true a (new Macro s) m
+  list_of_macro s m = ap (λ o. built (wrap (Shaped said_macro) (wrap (Both (new Macro s)) o))) (after_block_is m) ∙ go (parse_form (table after_block) m) ∙ block_after true a (new Macro s) m
     where
       go : (o : Out) → built (wrap (Shaped said_macro) (wrap (Both (new Macro s)) (wrap Node o))) ≡ listed_as true a (new Macro s) o
       go None = refl
@@ -202,7 +202,7 @@ module _ (outer : Syntax) where
   list_of_crate_macro s m =
       ap (λ o. built (wrap (Shaped said_macro) (wrap (Both (new Macro s)) (branch (sees at_postfix_mark m) None o)))) (after_block_is m)
       ∙ go (sees at_postfix_mark m) (parse_form (table after_block) m)
-      ∙ ap (pick (sees at_postfix_mark m) None) (block_behind true a (new Macro s) m)
+      ∙ ap (pick (sees at_postfix_mark m) None) (block_after true a (new Macro s) m)
       ∙ turn (sees at_postfix_mark m) (behind_block true true a (new Macro s) m)
     where
       go : (c : Bool) (o : Out) → built (wrap (Shaped said_macro) (wrap (Both (new Macro s)) (branch c None (wrap Node o)))) ≡ pick c None (listed_as true a (new Macro s) o)
@@ -259,12 +259,12 @@ module _ (outer : Syntax) where
       go None = refl
       go (Some p) = refl
 
--- what a rule reads stands in its node
+-- what a rule reads is in its node
 is_node : (o : Out) (a : Syntax) (m : Stream) → wrap Node o ≡ Some (a, m) → (x : Syntax) × (a ≡ Node x)
 is_node (Some p) a m e = let i : ◌≡◌ {A = Syntax × Stream} (Node p.0, p.1) (a, m) = cc e in (p.0, sym (ap (λ z. z.0) i))
 is_node None a m e = absurd (cc e)
 
--- an item, and the statements behind it
+-- an item, and the statements after it
 item_first : (o : Out) → wrap item_listed (and_then o (parse_rule statements)) ≡ then_by (wrap (Shaped an_item) o) more
 item_first None = refl
 item_first (Some p) = go (parse_rule statements p.1)
@@ -307,7 +307,7 @@ statements_more ts h = go (sees at_semicolon ts) refl
     go true e = statements_is ts ∙ rw h (rw e (after (take_chars semicolon ts)))
     go false e = list_by_attributes ts h e (parse_rule attributes ts) refl
 
--- a block with what goes on it
+-- a block with what continues it
 pub block_goes_on : (in_list b : Bool) (a e : Syntax) (ts : Stream) (x : Syntax) (m : Stream) → sees at_semicolon ts ≡ false → sees at_postfix_mark ts ≡ true → wrap (onto e) (parse_rule operand_rest ts) ≡ Some (x, m) →
     behind_block in_list b a e ts ≡ ending in_list b a x m
 block_goes_on in_list b a e ts x m h k got =

@@ -12,7 +12,7 @@ use Rattle.syn_grammar.proofs.Each.{literal_fields_is}
 use Rattle.syn_tokens.specs.Listing.{last_of, list_of}
 use Rattle.syn_expr_parse.specs.StructLiterals.{base_alone, base_form, fields_before, literal_of_parts, one_before}
 
--- behind a field
+-- after a field
 abbrev behind : Stream → Out
 behind m = branch (sees at_comma m) (and_then (take_mark comma m) (parse_rule literal_fields)) (Some (Nothing, m))
 

@@ -108,8 +108,8 @@ shows_labelled (Some p) q = go (q p.1)
 abbrev label_form : Grammar
 label_form = when at_lifetime then lifetime & punctuation colon else empty
 
-abbrev behind_label_form : Grammar
-behind_label_form = when at_brace then shaped (operand Block) (rule body) else rule loop_expression
+abbrev after_label_form : Grammar
+after_label_form = when at_brace then shaped (operand Block) (rule body) else rule loop_expression
 
 if_shows : (ts : Stream) → CoreShown (parse_rule if_expression ts)
 if_shows ts = subst CoreShown (sym (if_expression_is ts)) (shows_node _ (shows_new If _))
@@ -117,13 +117,13 @@ if_shows ts = subst CoreShown (sym (if_expression_is ts)) (shows_node _ (shows_n
 block_like_shows : (ts : Stream) → CoreShown (parse_rule block_like ts)
 block_like_shows ts =
     subst CoreShown (sym (block_like_is ts))
-    (shows_node _ (shows_choice _ (shows_branch (sees (at_word w_if) ts) _ _ (if_shows ts) (shows_branch (sees (at_word w_unsafe) ts) _ _ (shows_new Unsafe _) (shows_labelled (parse_form label_form ts) (parse_form behind_label_form))))))
+    (shows_node _ (shows_choice _ (shows_branch (sees (at_word w_if) ts) _ _ (if_shows ts) (shows_branch (sees (at_word w_unsafe) ts) _ _ (shows_new Unsafe _) (shows_labelled (parse_form label_form ts) (parse_form after_label_form))))))
 
 literal_shows : (a p : Syntax) → own_shown a ≡ true → own_shown (literal_of a p) ≡ true
 literal_shows (Shaped (expr Path) (Both a s)) p e = e
 literal_shows s p e = refl
 
--- what goes on an expression hides no attributes
+-- what continues an expression hides no attributes
 pub onto_shows : (a l : Syntax) → own_shown a ≡ true → own_shown (onto a l) ≡ true
 onto_shows a Nothing e = e
 onto_shows a (Node l) e = onto_shows a l e
@@ -136,7 +136,7 @@ onto_shows a (Shaped dotted p) e = refl
 onto_shows a (Shaped fields p) e = literal_shows a p e
 onto_shows a l e = refl
 
--- a path, with braces behind it or without
+-- a path, followed by braces or without
 shows_path : (o : Out) (q : Parser) → CoreShown (wrap (shape chain) (and_then (wrap (new Path) o) q))
 shows_path None q = record { is = refl }
 shows_path (Some p) q = go (q p.1)

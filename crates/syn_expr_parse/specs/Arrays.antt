@@ -15,7 +15,7 @@ abbrev pub syntax_of_ArrayContent : {E : Type 0} → (E → Syntax) → ArrayCon
 syntax_of_ArrayContent view (ArrayContent-m.Elements l) = array_elements (list_of view comma_syntax l.pairs l.last)
 syntax_of_ArrayContent view (ArrayContent-m.Copies e semi len) = Node (Right (Both (view e.value) (Left (Both (semi_syntax semi) (view len.value)))))
 
--- behind the first element
+-- after the first element
 abbrev pub array_rest_form : Grammar
 array_rest_form = when at_comma then punctuation comma & rule expressions else empty
 

@@ -1,5 +1,5 @@
 -- WHAT A CHAIN OF OPERATORS MAKES OF THE EXPRESSION BEFORE IT, one operator at a time; and what a level reads by its chain.
--- (The proofs stand here, since each level cites them.)
+-- (The proofs are here, since each level cites them.)
 use Rattle.std.proofs.Common.{◌≡◌, Bool, true, false, List, [], ◌∷◌, Some, None, refl, ap, ◌∙◌}
 use Rattle.syn_grammar.specs.Tokens.{Stream, pick}
 use Rattle.syn_grammar.specs.Shape.{Variant, Binary, operator, chain}
@@ -9,7 +9,7 @@ use Rattle.syn_grammar.specs.Take.{Out, Parser, sees, take_mark}
 use Rattle.syn_grammar.specs.Values.{core, onto, chained}
 use Rattle.syn_grammar.specs.Run.{wrap, and_then, branch, parse_rule, parse_form}
 use Rattle.syn_expr_parse.specs.Spots.{head_of}
-use Rattle.syn_expr_parse.specs.Levels.{Operator, chain_form, once_form, first_operator, joined, then_more, going, going_once, chained_out, IsLevel, Steps}
+use Rattle.syn_expr_parse.specs.Levels.{Operator, chain_form, once_form, first_operator, joined, then_more, going, continuing_once, chained_out, IsLevel, Steps}
 use Rattle.syn_expr_parse.specs.declared.parsing.nested.Spot.TheVariants as Spot-m
 
 -- a rule's Node is nothing to a chain
@@ -31,7 +31,7 @@ onto_both a x None = refl
 onto_both a x (Some p) = refl
 
 module _ (v : Variant) (a : Syntax) where
-  -- an operator and its right operand, once or with more behind them
+  -- an operator and its right operand, once or followed by more
   pub one : (x : Syntax) (p : Out) → wrap (onto a) (wrap (Shaped (operator v)) (wrap (Both x) p)) ≡ joined v a x p
   one x None = refl
   one x (Some p) = refl
@@ -41,16 +41,16 @@ module _ (v : Variant) (a : Syntax) where
   one_more x (Some p) more = onto_both a _ (more p.1)
 
 module _ (k : Rule) (a : Syntax) where
-  pub once_step : (l : List Operator) (ts : Stream) → wrap (onto a) (parse_form (once_form l k) ts) ≡ going_once a ts (first_operator l ts) (parse_rule k)
+  pub once_step : (l : List Operator) (ts : Stream) → wrap (onto a) (parse_form (once_form l k) ts) ≡ continuing_once a ts (first_operator l ts) (parse_rule k)
   once_step [] ts = refl
   once_step (o ∷ l) ts = go (sees o.0 ts) (take_mark o.1 ts) (once_step l ts)
     where
-      read : (t : Out) → wrap (onto a) (wrap (Shaped (operator Binary)) (and_then t (parse_rule k))) ≡ going_once a ts (Some t) (parse_rule k)
+      read : (t : Out) → wrap (onto a) (wrap (Shaped (operator Binary)) (and_then t (parse_rule k))) ≡ continuing_once a ts (Some t) (parse_rule k)
       read None = refl
       read (Some p) = one Binary a p.0 (parse_rule k p.1)
 
-      go : (b : Bool) (t : Out) → wrap (onto a) (parse_form (once_form l k) ts) ≡ going_once a ts (first_operator l ts) (parse_rule k) →
-          wrap (onto a) (branch b (wrap (Shaped (operator Binary)) (and_then t (parse_rule k))) (parse_form (once_form l k) ts)) ≡ going_once a ts (pick b (Some t) (first_operator l ts)) (parse_rule k)
+      go : (b : Bool) (t : Out) → wrap (onto a) (parse_form (once_form l k) ts) ≡ continuing_once a ts (first_operator l ts) (parse_rule k) →
+          wrap (onto a) (branch b (wrap (Shaped (operator Binary)) (and_then t (parse_rule k))) (parse_form (once_form l k) ts)) ≡ continuing_once a ts (pick b (Some t) (first_operator l ts)) (parse_rule k)
       go true t ih = from_left a _ ∙ read t
       go false t ih = from_right a _ ∙ ih
 

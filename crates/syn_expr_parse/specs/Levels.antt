@@ -1,4 +1,4 @@
--- LEVELS OF OPERATORS: what a level's chain is read by, and what it makes of the expression that stands before it.
+-- LEVELS OF OPERATORS: what a level's chain is read by, and what it makes of the expression that is before it.
 use Rattle.std.specs.Prelude.{◌≡◌, ◌<◌, List, [], ◌∷◌, ◌++◌, Option, Some, None, Result, Ok, Err}
 use Rattle.syn_grammar.specs.Words.{Text, star, slash, percent, plus, minus, less_less, greater_greater, ampersand, caret, bar, equal_equal, not_equals, less, greater, less_equals, greater_equals, and_and, or_or, plus_equals, minus_equals, star_equals, slash_equals, percent_equals, caret_equals, ampersand_equals, bar_equals, less_less_equals, greater_greater_equals, equals}
 use Rattle.syn_grammar.specs.Tokens.{Stream, no, pick, Look, at_mark}
@@ -12,7 +12,7 @@ use Rattle.syn_grammar.specs.Values.{core, onto, new}
 use Rattle.syn_grammar.specs.Run.{wrap, parse_rule}
 use Rattle.syn_expr_parse.specs.Spots.{Spot, within}
 
--- an operator: what has to stand next, and the mark that is read there
+-- an operator: what has to be next, and the mark that is read there
 abbrev pub Operator : Type 0
 Operator = Look × Text
 
@@ -69,25 +69,25 @@ abbrev pub once_form : List Operator → Rule → Grammar
 once_form [] k = empty
 once_form (o ∷ l) k = when o.0 then shaped (operator Binary) (punctuation o.1 & rule k) else once_form l k
 
--- what is read of the first operator that stands next; None where none stands
+-- what is read of the first operator that is next; None if there is none
 abbrev pub first_operator : List Operator → Stream → Option Out
 first_operator [] ts = None
 first_operator (o ∷ l) ts = pick (sees o.0 ts) (Some (take_mark o.1 ts)) (first_operator l ts)
 
--- what reads an operator answers it, or None where none stands next; or it is refused, and none can be read
+-- what reads an operator returns it, or None where none is next; or it is refused, and none can be read
 abbrev pub ReadsOperator : {X E : Type 0} → (E → Type 0) → (X → Syntax) → List Operator → Stream → Result (Option X) E → Stream → Type 0
 ReadsOperator refusal view l old (Ok (Some x)) new = (first_operator l old ≡ Some (Some (view x, new))) × (left new < left old)
 ReadsOperator refusal view l old (Ok None) new = (first_operator l old ≡ None) × (new ≡ old)
 ReadsOperator refusal view l old (Err e) new = refusal e → first_operator l old ≡ Some None
 
--- FROM THE EXPRESSION a THAT STANDS BEFORE IT
+-- FROM THE EXPRESSION a THAT PRECEDES IT
 
 -- an operator and what is read right of it make a new expression
 abbrev pub joined : Variant → Syntax → Syntax → Out → Out
 joined v a o (Some p) = Some (new v (Both a (Both o p.0)), p.1)
 joined v a o None = None
 
--- and the chain goes on
+-- and the chain continues
 abbrev pub then_more : Out → Parser → Out
 then_more (Some p) more = wrap (onto p.0) (more p.1)
 then_more None more = None
@@ -99,17 +99,17 @@ going a ts (Some None) operand more = None
 going a ts None operand more = Some (a, ts)
 
 -- once at most
-abbrev pub going_once : Syntax → Stream → Option Out → Parser → Out
-going_once a ts (Some (Some o)) operand = joined Binary a o.0 (operand o.1)
-going_once a ts (Some None) operand = None
-going_once a ts None operand = Some (a, ts)
+abbrev pub continuing_once : Syntax → Stream → Option Out → Parser → Out
+continuing_once a ts (Some (Some o)) operand = joined Binary a o.0 (operand o.1)
+continuing_once a ts (Some None) operand = None
+continuing_once a ts None operand = Some (a, ts)
 
 -- an operand and its chain
 abbrev pub chained_out : Out → Parser → Out
 chained_out (Some p) more = wrap Node (wrap (onto (core p.0)) (more p.1))
 chained_out None more = None
 
--- `as` and what is read behind it
+-- `as` and what is read after it
 abbrev pub cast_out : Syntax → Out → Out
 cast_out a (Some o) = then_more (joined Cast a o.0 (parse_rule type o.1)) (parse_rule casts)
 cast_out a None = None
@@ -121,12 +121,12 @@ assigned_form k = when at_equals_operator then shaped (operator Assign) (punctua
 abbrev pub whole_form : Rule → Rule → Grammar
 whole_form d k = shaped chain (rule d & rule k & (when at_unfinished then never else empty))
 
--- `=` and what is read behind it, by this rule
+-- `=` and what is read after it, by this rule
 abbrev pub assign_out : Rule → Syntax → Out → Out
 assign_out k a (Some o) = joined Assign a o.0 (parse_rule k o.1)
 assign_out k a None = None
 
--- behind a whole expression no postfix and no comparison stands
+-- no postfix and no comparison follows a whole expression
 abbrev pub unfinished_out : Out → Out
 unfinished_out (Some p) = only (no (sees at_unfinished p.1)) (Some (Node p.0, p.1))
 unfinished_out None = None
@@ -136,7 +136,7 @@ abbrev pub whole_out : Rule → Out → Out
 whole_out k (Some p) = unfinished_out (wrap (onto (core p.0)) (parse_rule k p.1))
 whole_out k None = None
 
--- BEHIND AN OPERAND: one chain after another
+-- AFTER AN OPERAND: one chain after another
 
 abbrev pub rest_rules : Rule × List Rule
 rest_rules = (postfixes, casts ∷ products ∷ sums ∷ shifts ∷ bit_ands ∷ bit_xors ∷ bit_ors ∷ compared ∷ conjunctions ∷ disjunctions ∷ assigned ∷ [])
@@ -145,7 +145,7 @@ abbrev pub rest_form : Rule → List Rule → Grammar
 rest_form k [] = rule k
 rest_form k (n ∷ l) = rule k & rest_form n l
 
--- what was read so far is what the next chain goes on
+-- what was read so far is what the next chain continues
 abbrev pub then_core : Out → (Syntax → Parser) → Out
 then_core (Some p) f = f (core p.0) p.1
 then_core None f = None

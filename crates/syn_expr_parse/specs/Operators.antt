@@ -1,4 +1,4 @@
--- WHAT SYNTAX OPERATORS STAND FOR.
+-- THE SYNTAX OF OPERATORS.
 use Rattle.std.specs.Prelude.{◌≡◌, ℕ, length}
 use Rattle.syn_grammar.specs.Grammar.{Syntax}
 use Rattle.syn_tokens.specs.Kinds.{and_syntax, and_and_syntax, and_eq_syntax, caret_syntax, caret_eq_syntax, eq_eq_syntax, ge_syntax, gt_syntax, le_syntax, lt_syntax, minus_syntax, minus_eq_syntax, ne_syntax, not_syntax, or_syntax, or_eq_syntax, or_or_syntax, percent_syntax, percent_eq_syntax, plus_syntax, plus_eq_syntax, shl_syntax, shl_eq_syntax, shr_syntax, shr_eq_syntax, slash_syntax, slash_eq_syntax, star_syntax, star_eq_syntax}

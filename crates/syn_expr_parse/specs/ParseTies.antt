@@ -1,5 +1,5 @@
 -- Functions that are handed over where expressions and statements lead back to themselves: at this stream they may be called, with as many
--- levels as may stand inside, and then answer what the rules read. Besides the buffer they take these levels, and how a refusal is carried.
+-- levels as are allowed inside, and then return what the rules read. Besides the buffer they take these levels, and how a refusal is carried.
 use Rattle.std.specs.Prelude.{◌≡◌, Result}
 use denote.Ref.{MutBor}
 use Rattle.syn_grammar.specs.Tokens.{Stream}

@@ -15,7 +15,7 @@ field_member (Left index) = Node (Left index)
 field_member (Right name) = Node (Right (Both name (Right (Right Nothing))))
 field_member s = s
 
--- a method's arguments, behind generic ones or none; of a tree made by hand the `::` before these may be missing
+-- a method's arguments, after generic ones or none; of a tree made by hand the `::` before these may be missing
 abbrev pub method_arguments : Option Syntax → Syntax → Syntax
 method_arguments None arguments = Right (Left arguments)
 method_arguments (Some (Both (Left colons) generic)) arguments = Left (Both colons (Both generic arguments))
@@ -36,18 +36,18 @@ token_of s = s
 abbrev pub label_syntax : Option (Lifetime × Colon) → Syntax
 label_syntax l = maybe (λ p. Both (syntax_of_lifetime p.0) (colon_syntax p.1)) l
 
--- Behind `else` stands a block. Anything else, which only a tree made by hand holds there, is printed in braces.
+-- A block follows `else`. Anything else, which only a tree made by hand holds there, is printed in braces.
 abbrev pub in_braces : Syntax → Syntax
 in_braces s = Group grammar.Brace call_site call_site (Shaped choice s)
 
-abbrev pub block_behind_else : Syntax → Syntax
-block_behind_else (Shaped (expr Block) s) = Shaped (expr Block) s
-block_behind_else s = in_braces s
+abbrev pub block_after_else : Syntax → Syntax
+block_after_else (Shaped (expr Block) s) = Shaped (expr Block) s
+block_after_else s = in_braces s
 
 -- a block or another `if`
-abbrev pub behind_else : Syntax → Syntax
-behind_else (Shaped (expr If) s) = Right (Node (Shaped (expr If) s))
-behind_else s = Left (block_behind_else s)
+abbrev pub after_else : Syntax → Syntax
+after_else (Shaped (expr If) s) = Right (Node (Shaped (expr If) s))
+after_else s = Left (block_after_else s)
 
 -- `else` and a block, or nothing
 abbrev pub diverging : Syntax → Syntax

@@ -1,4 +1,4 @@
--- WHAT GOES ON AN EXPRESSION: links, from the left to the right.
+-- WHAT CONTINUES AN EXPRESSION: links, from the left to the right.
 use Rattle.std.specs.Prelude.{List, [], ◌∷◌, Some, None}
 use Rattle.syn_grammar.specs.Words.{colons, dot, question}
 use Rattle.syn_grammar.specs.Tokens.{pick, Paren, Bracket, Look}
@@ -20,7 +20,7 @@ index_form = inside Bracket (rule whole_expression)
 abbrev pub member_form : Grammar
 member_form = punctuation dot & rule member
 
--- a link: where it stands next, how the value is built, and its form
+-- a link: where it is next, how the value is built, and its form
 abbrev pub Link : Type 0
 Link = Look × (Shape × Grammar)
 
@@ -29,21 +29,21 @@ postfix_links =
     (at_paren, (behind_it Call, arguments_form)) ∷ (at_bracket, (behind_it Index, index_form)) ∷ (at_question, (behind_it Try, punctuation question))
     ∷ (at_dot, (dotted, member_form)) ∷ []
 
--- the form of links and what a rule reads behind them
+-- the form of links and what a rule reads after them
 abbrev pub links_form : List Link → Rule → Grammar
 links_form [] more = empty
 links_form (l ∷ ls) more = when l.0 then shaped l.1.0 l.1.1 & rule more else links_form ls more
 
--- an expression with a link behind it
+-- an expression followed by a link
 abbrev pub linked : Shape → Syntax → Out → Out
 linked j a o = wrap (λ s. onto a (shape j s)) o
 
--- an expression, and what goes on it
+-- an expression, and what continues it
 abbrev pub then_more : Out → Parser → Out
 then_more (Some p) more = wrap (onto p.0) (more p.1)
 then_more None more = None
 
--- by what stands next
+-- by the next token
 abbrev pub follow : List Link → Syntax → Parser → Parser
 follow [] a more ts = Some (a, ts)
 follow (l ∷ ls) a more ts = pick (sees l.0 ts) (then_more (linked l.1.0 a (parse_form l.1.1 ts)) more) (follow ls a more ts)
@@ -54,16 +54,16 @@ follow (l ∷ ls) a more ts = pick (sees l.0 ts) (then_more (linked l.1.0 a (par
 abbrev pub generic_call_form : Grammar
 generic_call_form = punctuation colons & rule generic_arguments & arguments_form
 
-abbrev pub behind_name_form : Grammar
-behind_name_form = when at_colons then generic_call_form else when at_paren then arguments_form else empty
+abbrev pub after_name_form : Grammar
+after_name_form = when at_colons then generic_call_form else when at_paren then arguments_form else empty
 
 abbrev pub named_form : Grammar
-named_form = plainly name & behind_name_form
+named_form = plainly name & after_name_form
 
--- behind a base and `.`
-abbrev pub behind_dot : Syntax → Syntax → Out → Out
-behind_dot base dot_token o = linked dotted base (wrap (Both dot_token) (wrap Node o))
+-- after a base and `.`
+abbrev pub after_dot : Syntax → Syntax → Out → Out
+after_dot base dot_token o = linked dotted base (wrap (Both dot_token) (wrap Node o))
 
--- behind a name
-abbrev pub behind_name : Syntax → Syntax → Syntax → Out → Out
-behind_name base dot_token word o = behind_dot base dot_token (wrap Right (wrap (Both word) o))
+-- after a name
+abbrev pub after_name : Syntax → Syntax → Syntax → Out → Out
+after_name base dot_token word o = after_dot base dot_token (wrap Right (wrap (Both word) o))

@@ -1,4 +1,4 @@
--- A PRIMARY EXPRESSION, by what stands next.
+-- A PRIMARY EXPRESSION, by the next token.
 use Rattle.std.specs.Prelude.{Some}
 use Rattle.syn_grammar.specs.Words.{w_break, w_continue, w_false, w_return, w_true}
 use Rattle.syn_grammar.specs.Tokens.{Stream, Brace, Bracket, None, pick, at_lifetime, at_word}
@@ -36,7 +36,7 @@ continue_form = plainly (word w_continue) & (when at_lifetime then lifetime else
 abbrev pub bracketed_of : Out → Out
 bracketed_of o = wrap (shape bracketed) o
 
--- the braces of a struct literal, behind its path, or nothing
+-- the braces of a struct literal, after its path, or nothing
 abbrev pub literal_form : Grammar
 literal_form = inside Brace (rule literal_fields)
 

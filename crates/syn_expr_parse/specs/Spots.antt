@@ -1,4 +1,4 @@
--- WHERE AN EXPRESSION STANDS. In the head of an `if`, a `while` or a `for` a path takes no braces: each rule of expressions has another
+-- THE PLACE OF AN EXPRESSION. In the head of an `if`, a `while` or a `for` a path takes no braces: each rule of expressions has another
 -- there, which is the same but for that.
 use Rattle.syn_grammar.specs.Rules.{Rule, primary, unary, cast, products, product, sums, sum, shifts, shift, bit_ands, bit_and, bit_xors, bit_xor, bit_ors, bit_or, compared, comparison, conjunctions, conjunction, disjunctions, disjunction, assigned, whole_expression, primary_head, unary_head, cast_head, products_head, product_head, sums_head, sum_head, shifts_head, shift_head, bit_ands_head, bit_and_head, bit_xors_head, bit_xor_head, bit_ors_head, bit_or_head, compared_head, comparison_head, conjunctions_head, conjunction_head, disjunctions_head, disjunction_head, assigned_head, whole_expression_head}
 use Rattle.syn_expr_parse.specs.declared.parsing.nested.Spot.TheVariants as Spot-m

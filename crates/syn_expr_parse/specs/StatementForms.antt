@@ -24,7 +24,7 @@ terminator in_list ts = pick (sees at_semicolon ts) (wrap Left (take_mark semico
 abbrev pub ending : Bool → Bool → Syntax → Syntax → Parser
 ending in_list b a e ts = wrap (λ m. sentence b (moved a e) m) (terminator in_list ts)
 
--- the same of a block or a macro in braces, which may stand without `;`
+-- the same of a block or a macro in braces, which needs no `;`
 abbrev pub behind_block : Bool → Bool → Syntax → Syntax → Parser
 behind_block in_list b a e ts =
     pick (sees at_semicolon ts) (wrap (λ m. sentence b (moved a e) (Left m)) (take_mark semicolon ts))
@@ -46,19 +46,19 @@ expression_statement in_list a ts =
     pick (sees at_block_like ts) (then_by (wrap core (parse_rule block_like ts)) (behind_block in_list false a))
     (then_by (wrap core (parse_rule whole_expression ts)) (ending in_list false a))
 
--- a statement that is no item, behind its attributes
+-- a statement that is no item, after its attributes
 abbrev pub behind_attributes : Bool → Syntax → Parser
 behind_attributes in_list a ts =
     pick (sees at_crate_macro ts) (crate_macro_statement in_list a ts)
     (pick (sees at_brace_macro ts) (macro_statement in_list a ts)
     (pick (sees (at_word w_let) ts) (wrap (Shaped a_local) (wrap (Both a) (parse_rule local ts))) (expression_statement in_list a ts)))
 
--- what goes on an expression stands behind what was read
+-- what continues an expression follows what was read
 abbrev pub goes_on : Out → Bool
 goes_on (Some p) = sees at_postfix_mark p.1
 goes_on None = false
 
--- alone, a macro of `crate` in braces with this behind it is an item
+-- alone, a macro of `crate` in braces followed by this is an item
 abbrev pub crate_item : Bool → Stream → Bool
 crate_item true ts = false
 crate_item false ts = and (sees at_crate_macro ts) (goes_on (parse_rule macro_invocation ts))
@@ -70,7 +70,7 @@ item_next in_list ts = or (sees at_item ts) (crate_item in_list ts)
 abbrev pub item_statement : Parser
 item_statement ts = wrap (Shaped an_item) (parse_rule item ts)
 
--- a statement that begins here, by what stands behind its attributes
+-- a statement that begins here, by what follows its attributes
 abbrev pub by_item : Bool → Stream → Syntax → Parser
 by_item in_list start a ts = pick (item_next in_list ts) (item_statement start) (behind_attributes in_list a ts)
 
@@ -85,7 +85,7 @@ lone_semicolon m = Shaped said (Both (Shaped (expr Verbatim) (Captured Nothing e
 unfoldable pub next_statement : Parser
 next_statement ts = pick (sees at_semicolon ts) (wrap lone_semicolon (take_mark semicolon ts)) (statement_by true ts)
 
--- a statement, and those behind it
+-- a statement, and those after it
 abbrev pub before_others : Syntax → Syntax → Syntax
 before_others s l = Node (Right (Shaped listed (Both s l)))
 
@@ -101,7 +101,7 @@ local_value_form =
 abbrev pub local_init_form : Grammar
 local_init_form = when at_equals then punctuation equals & local_value_form else empty
 
--- what stands behind the value, by whether that ends with braces
+-- what follows the value, by whether that ends with braces
 abbrev pub diverges : Bool → Parser
 diverges b ts = pick (and (sees (at_word w_else) ts) (no b)) (wrap (Shaped untagged) (parse_form diverging_form ts)) (Some (Shaped untagged Nothing, ts))
 

@@ -42,11 +42,11 @@ numbered_form = plainly index & value_form
 abbrev pub named_form : Grammar
 named_form = plainly name & (when at_colon then value_form else unshown)
 
--- a name alone, which stands for the variable of that name
+-- a name alone, which represents the variable of that name
 abbrev pub named_path : Syntax → Syntax
 named_path word = new Path (Node (Right (Node (Both (Right Nothing) (Node (Both (Shaped untagged (Both word (Shaped untagged Nothing))) (Right Nothing)))))))
 
--- what is left unshown behind a name alone: nothing, where the value is that variable (spans aside)
+-- what is left unshown after a name alone: nothing, where the value is that variable (spans aside)
 abbrev pub hidden : Syntax → Syntax → Syntax
 hidden word value = pick (same_syntax (named_path word) value) Nothing (Node value)
 

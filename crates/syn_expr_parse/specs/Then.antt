@@ -1,4 +1,4 @@
--- ONE READING BEHIND ANOTHER.
+-- ONE READING AFTER ANOTHER.
 use Rattle.std.specs.Prelude.{Some, None}
 use Rattle.syn_grammar.specs.Grammar.{Syntax}
 use Rattle.syn_grammar.specs.Take.{Out, Parser}

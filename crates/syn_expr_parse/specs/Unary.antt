@@ -25,7 +25,7 @@ own_shown (Shaped (expr v) (Both a fields)) = all_shown a
 own_shown (Shaped (expr v) s) = false
 own_shown _ = true
 
--- a mark and a unary level behind it
+-- a mark and a unary level after it
 abbrev pub signed_form : Spot → Text → Grammar
 signed_form p mark = punctuation mark & rule (within p unary)
 
@@ -42,12 +42,12 @@ unary_form p =
     else when at_ampersand then shaped (operand Reference) (reference_form p)
     else shaped chain (rule (within p primary) & rule postfixes)))
 
--- an operand, and what goes on it
+-- an operand, and what continues it
 abbrev pub operand_of : Out → Parser → Out
 operand_of (Some p) more = wrap (onto (core p.0)) (more p.1)
 operand_of None more = None
 
--- behind attributes
+-- after attributes
 abbrev pub bare_unary : Spot → Parser
 bare_unary p ts =
     pick (sees at_minus ts) (wrap (new Unary) (parse_form (signed_form p minus) ts))
@@ -55,7 +55,7 @@ bare_unary p ts =
     (pick (sees at_star ts) (wrap (new Unary) (parse_form (signed_form p star) ts))
     (pick (sees at_ampersand ts) (wrap (new Reference) (parse_form (reference_form p) ts)) (operand_of (parse_rule (within p primary) ts) (parse_rule postfixes)))))
 
--- attributes, and what stands behind them
+-- attributes, and what follows them
 abbrev pub attributed_of : Out → Parser → Out
 attributed_of (Some a) more = wrap (with_attributes a.0) (more a.1)
 attributed_of None more = None

@@ -10,7 +10,7 @@ use syn_tokens::token::{
 };
 
 /// An operator between two expressions.
-#[derive(Drop)]
+#[derive(Clone, Copy)]
 pub enum BinOp {
     /// `+`
     Add(Plus),
@@ -71,7 +71,7 @@ pub enum BinOp {
 }
 
 /// An operator before an expression.
-#[derive(Drop)]
+#[derive(Clone, Copy)]
 pub enum UnOp {
     /// `*`
     Deref(Star),

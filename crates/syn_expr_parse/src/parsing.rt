@@ -1,4 +1,4 @@
-//! Parsers. An expression holds expressions and blocks, and a block holds expressions: each parser is told what reads these.
+//! Parsers. An expression holds expressions and blocks, and a block holds expressions: each parser is given parsers for these.
 
 mod blocks;
 mod chains;

@@ -18,7 +18,7 @@ ghost use Rattle.syn_lower.specs.Members.{syntax_of_Member};
 ghost use Rattle.syn_pat.specs.Patterns.{local_pattern, path_of, syntax_of_Pat};
 ghost use Rattle.syn_lower.specs.Bodies.{attributes_before_body, body as body_syntax};
 ghost use Rattle.syn_expr_parse.specs.Operators.{syntax_of_BinOp, syntax_of_UnOp};
-ghost use Rattle.syn_expr_parse.specs.Parts.{array_elements, behind_else, block_behind_else, diverging, field_member, label_syntax, method_arguments, statements_of, token_of};
+ghost use Rattle.syn_expr_parse.specs.Parts.{array_elements, after_else, block_after_else, diverging, field_member, label_syntax, method_arguments, statements_of, token_of};
 ghost use Rattle.syn_expr_parse.specs.Primary.{in_literal};
 ghost use Rattle.syn_expr_parse.specs.Spines.{spine_shown};
 ghost use Rattle.syn_expr_parse.specs.StructLiterals.{field_of, literal_of_parts, lone_field};
@@ -38,7 +38,7 @@ use syn_tokens::token::{
     In, Let, Loop, Mut, Paren, Question, Return, Semi, Unsafe, While,
 };
 
-/// The trees of expressions, blocks and statements. Each function that may want memory is refused only where that is.
+/// The trees of expressions, blocks and statements. A function that takes memory is refused only if memory is.
 pub trait Trees {
     ghost use Rattle.std.specs.Prelude.{◌≡◌};
     ghost use Rattle.syn_grammar.specs.Grammar.{Syntax};
@@ -62,22 +62,22 @@ pub trait Trees {
     /// Fields of struct literals.
     type FieldValue: Drop;
 
-    /// What an expression stands for, without its rule's node.
+    /// What an expression represents, without its rule's node.
     ghost expr_syntax: { Self.Expr → Syntax };
 
     ghost block_syntax: { Self.Block → Syntax };
 
-    /// What a statement stands for, without its rule's node.
+    /// What a statement represents, without its rule's node.
     ghost stmt_syntax: { Self.Stmt → Syntax };
 
     ghost init_syntax: { Self.LocalInit → Syntax };
 
-    /// What the expression stands for of which a statement is made.
+    /// What the expression represents of which a statement is made.
     ghost held_syntax: { Self.Held → Syntax };
 
     ghost field_syntax: { Self.FieldValue → Syntax };
 
-    /// What an expression stands for is a value of its own.
+    /// What an expression represents is a value of its own.
     ghost core_is: { (e : Self.Expr) → core (Self.expr_syntax e) ≡ Self.expr_syntax e };
 
     /// Expressions in brackets.
@@ -187,7 +187,7 @@ pub trait Trees {
         else_branch: Option<(Else, Box<Self::Expr>)>,
         alloc: Global,
     ) -> Parsed<Box<Self::Expr>>
-        ensures { OrMemory IsSyntax result (λ x. Self.expr_syntax x.value ≡ new Choosing (Both (if_syntax if_token) (Both (Node (Self.expr_syntax cond.value)) (Both (Self.block_syntax then_branch) (maybe (λ p. Both (else_syntax p.0) (behind_else (Self.expr_syntax p.1.value))) else_branch))))) };
+        ensures { OrMemory IsSyntax result (λ x. Self.expr_syntax x.value ≡ new Choosing (Both (if_syntax if_token) (Both (Node (Self.expr_syntax cond.value)) (Both (Self.block_syntax then_branch) (maybe (λ p. Both (else_syntax p.0) (after_else (Self.expr_syntax p.1.value))) else_branch))))) };
 
     /// An index, in brackets.
     fn expr_index(
@@ -236,7 +236,7 @@ pub trait Trees {
     ) -> Parsed<Box<Self::Expr>>
         ensures { OrMemory IsSyntax result (λ x. Self.expr_syntax x.value ≡ new Parens (group_syntax grammar.Paren paren_token (Node (Right (Both (Node (Self.expr_syntax expr.value)) (Right Nothing)))))) };
 
-    /// A path, perhaps behind a qualified type.
+    /// A path, perhaps after a qualified type.
     fn expr_path(qself: Option<QSelf>, path: Path, alloc: Global) -> Parsed<Box<Self::Expr>>
         ensures { OrMemory IsSyntax result (λ x. Self.expr_syntax x.value ≡ new Paths (path_of qself path)) };
 
@@ -292,7 +292,7 @@ pub trait Trees {
     fn lone_field(attrs: Vec<Attribute>, name: Ident, alloc: Global) -> Parsed<Self::FieldValue>
         ensures { OrMemory IsSyntax result (λ f. Self.field_syntax f ≡ lone_field (attributes_syntax attrs.items) (syntax_of_ident name)) };
 
-    /// `?` behind an expression.
+    /// `?` after an expression.
     fn expr_try(
         expr: Box<Self::Expr>,
         question_token: Question,
@@ -374,7 +374,7 @@ pub trait Trees {
         expr: Box<Self::Expr>,
         diverge: Option<(Else, Box<Self::Expr>)>,
     ) -> Self::LocalInit
-        ensures { Self.init_syntax result ≡ Both (eq_syntax eq_token) (Shaped untagged (Both (Such (Node (Self.expr_syntax expr.value))) (diverging (maybe (λ p. Both (else_syntax p.0) (block_behind_else (Self.expr_syntax p.1.value))) diverge)))) };
+        ensures { Self.init_syntax result ≡ Both (eq_syntax eq_token) (Shaped untagged (Both (Such (Node (Self.expr_syntax expr.value))) (diverging (maybe (λ p. Both (else_syntax p.0) (block_after_else (Self.expr_syntax p.1.value))) diverge)))) };
 
     /// A local.
     fn local(

@@ -1,4 +1,4 @@
--- What was read in front of a rest is read alone; and equal tokens, spans aside, are read as equal values, spans aside.
+-- A form reads the same tokens without the rest after them; and tokens that differ only in spans give values that differ only in spans.
 use Rattle.std.proofs.Common.{◌≡◌, ℕ, zero, suc, Bool, true, false, List, [], ◌∷◌, Some, refl, sym, ap, ap₂, ◌∙◌, subst, true≢false, ◌⊎◌, inl, inr}
 use Rattle.syn_grammar.specs.Words.{w_true, w_false}
 use Rattle.syn_grammar.specs.Tokens.{Stream, end, leaf, group, ◌⧺◌, or, and, no, Lookahead, Look, ended, at_name, at_word, at_mark, at_literal, at_group, at_empty_group, ahead, ◌or_else◌, ◌and_also◌, ◌but_not◌, lookahead, answers, is_ended, is_name, is_word, starts_mark, is_literal, is_group, is_empty_group}
@@ -18,7 +18,7 @@ use Rattle.syn_grammar.proofs.Takes.{before_is}
 use Rattle.syn_grammar.proofs.Means.{parse_rule_told, parse_rule_found}
 use Rattle.syn_grammar.proofs.PlainValues.{value_plain}
 
--- ---- what is computed of every rule holds of each
+-- ---- the test of all rules holds of each rule
 abbrev pub every_rule : (Rule → Bool) → List Rule → Bool
 every_rule p [] = true
 every_rule p (k ∷ ks) = and (p k) (every_rule p ks)
@@ -39,7 +39,7 @@ pub by_implied : (a b : Bool) → implies a b ≡ true → a ≡ true → b ≡ 
 by_implied true b e h = e
 by_implied false b e h = absurd (true≢false (sym h))
 
--- rules that end by themselves, by the test of the specifications, do so by that of the laws
+-- rules that pass the specifications' test of ending by themselves also pass that of the laws
 self_closed : (k : Rule) → self_delimiting k ≡ true → closed_of k ≡ true
 self_closed k = by_implied (self_delimiting k) (closed_of k) (of_every_rule (λ k. implies (self_delimiting k) (closed_of k)) refl refl k)
 
@@ -89,7 +89,7 @@ one_said said k (l ∷ ks) e w = go (or_split (same_rule k l) (among k ks) e) (o
     go (inl q) ih = ap said (same_rule_eq k l q) ∙ and_left (said l) _ w
     go (inr q) ih = ih q (and_right (said l) _ w)
 
--- a look that asks for no fact asks for the terminal alone
+-- a look that tests no fact tests the terminal alone
 pub by_terminal : (c : Look) (a b : Lookahead) → asks_fact c ≡ false → a.terminal ≡ b.terminal → answers c a ≡ answers c b
 by_terminal ended a b w e = ap is_ended e
 by_terminal at_name a b w e = ap is_name e

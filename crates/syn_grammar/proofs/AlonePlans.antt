@@ -1,4 +1,4 @@
--- The plans of rules that stand alone read what the rules read.
+-- The plans of rules of their own read what the rules read.
 use Rattle.std.proofs.Common.{◌≡◌, List, [], ◌∷◌, Some, None, refl, sym, ◌∙◌}
 use Rattle.syn_grammar.specs.Tokens.{Stream}
 use Rattle.syn_grammar.specs.Rules.{Rule, use_item_rest, type_item_rest, impl_definition_rest, kept_item}

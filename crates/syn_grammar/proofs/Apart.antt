@@ -1,4 +1,4 @@
--- The test of unions: whether two forms are apart, so that no stream is read by both.
+-- The test of unions: two forms are apart if no stream is read by both.
 use Rattle.std.proofs.Common.{◌≡◌, ℕ, zero, suc, Bool, true, false, List, [], ◌∷◌, sym, ap, ◌∙◌, true≢false, ◌⊎◌, inl, inr}
 use Rattle.syn_grammar.specs.Tokens.{Span, Stream, punct, or, and, no, Look, ended, stands, at_generics}
 use Rattle.syn_grammar.specs.Rules.{Rule}
@@ -24,7 +24,7 @@ abbrev pub rest : Grammar → Grammar
 rest (a & k) = k
 rest g = g
 
--- both end with the same rule: no list is read by what stands before it, in both
+-- both end with the same rule, and the part before it reads no list in either
 abbrev pub trailed : Grammar → Grammar → Bool
 trailed (a & rule j) (b & rule k) = same_rule j k
 trailed _ _ = false
@@ -33,7 +33,7 @@ abbrev pub first : Grammar → Grammar
 first (a & k) = a
 first g = g
 
--- of two forms that begin or end alike, what is left of one (true: they begin alike)
+-- what is left of one of two forms that share a beginning or an end (true: a beginning)
 abbrev pub part_of : Bool → Grammar → Grammar
 part_of true g = rest g
 part_of false g = first g
@@ -127,7 +127,7 @@ module _ (table : Rule → Grammar) (said : Rule → Start) where
   abbrev pub clears : Grammar → Grammar → Bool
   clears g h = or (no (nullable said g)) (every (excluded (never_follow said [] g)) (first_set said h))
 
-  -- no list begins with both, by what each begins with
+  -- no list begins with both, since their FIRST sets differ
   abbrev pub disjoint : Grammar → Grammar → Bool
   disjoint g h = and (no (and (nullable said g) (nullable said h))) (and (and (clears g h) (clears h g)) (apart_sets (first_set said g) (first_set said h)))
 

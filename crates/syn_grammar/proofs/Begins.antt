@@ -1,4 +1,4 @@
--- What stands in front of what is computed; so where a parser may turn by what stands next.
+-- The first lookahead of what a form reads, and so where a parser may branch on the next token.
 use Rattle.std.proofs.Common.{◌≡◌, ℕ, zero, suc, Bool, true, false, [], Some, None, refl, sym, ap, ap₂, ◌∙◌, subst, true≢false, ◌⊎◌, inl, inr}
 use Rattle.syn_grammar.specs.Words.{colon, comma, less}
 use Rattle.syn_grammar.specs.Tokens.{Stream, and, no, pick, is_name, mem, Look, at_generics}
@@ -145,16 +145,16 @@ run_start (suc n) k ts x e = let z = inv_wrap Node (runs (run n) (table k) ts) x
     go m e (inl q) = inl (mem_subset (lookahead_at ts).terminal (first_set start_of (table k)) _ (starts_hold k).0 q)
     go m e (inr (p, q)) = inr ((starts_hold k).1 p, q ∙ sym e)
 
--- a form reads nothing, or one of its FIRST set stands in front
+-- a form reads nothing, or the first token is in its FIRST set
 pub parse_start : (g : Grammar) → Starts g (parse_form g)
 unfolding parse_rule
 parse_start g = runs_start parse_rule (λ k ts x e. run_start _ k ts x e) g
 
--- the form reads something, and only where this stands next
+-- the form reads something, and only where this is next
 abbrev pub only_at : Look → Grammar → Bool
 only_at c g = and (no (nullable start_of g)) (every (must c) (first_set start_of g))
 
--- the form reads something, and never where this stands next
+-- the form reads something, and never where this is next
 abbrev pub never_at : Look → Grammar → Bool
 never_at c g = and (no (nullable start_of g)) (every (λ f. no (may c f)) (first_set start_of g))
 

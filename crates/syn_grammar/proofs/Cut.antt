@@ -1,4 +1,4 @@
--- What was read in front of a rest is read where that rest is cut off, by every form whose looks keep their answers.
+-- A form reads the same tokens where the rest after them is cut off, if its looks give the same result there.
 use Rattle.std.proofs.Common.{◌≡◌, ℕ, zero, suc, ◌+◌, ◌≤◌, Bool, true, false, List, [], ◌∷◌, refl, sym, ap, ap₂, ◌∙◌, subst, true≢false, ◌⊎◌, inl, inr, arith}
 use Rattle.syn_grammar.specs.Words.{Text}
 use Rattle.syn_grammar.specs.Tokens.{Span, ident, Stream, end, leaf, punct, group, ◌⧺◌, or, and, no, pick, Terminal, Ended, mem, Look, answers, lookahead, stands}
@@ -215,7 +215,7 @@ opened_law k _ ts r a = elim a [ ]
 abbrev least : Terminal → Grammar → ℕ
 least f g = least_of opened f g
 
--- ---- looks that keep their answers where the rest is cut off
+-- ---- looks that give the same result where the rest is cut off
 
 -- what the form reads begins with this terminal: the look, if it was true, stays true
 abbrev stays_true : Look → Grammar → Terminal → Bool
@@ -262,7 +262,7 @@ closed_cut g s x y r w a =
     let (c, e, k) = alone closed_of table closed_hold g s (x ⧺ r) (y ⧺ r) w a in
     subst (λ z. Derived g s z y × (lookahead z ≡ lookahead (x ⧺ r))) (sym (split_off x c y r e)) (k y)
 
--- what is read of the stream is some of it
+-- the tokens that are read are part of the stream
 some_cut : (g : Grammar) (s : Syntax) (x y r : Stream) → Derived g s (x ⧺ r) (y ⧺ r) → lowest g ≤ size x
 some_cut g s x y r a =
     let p = sized g s (x ⧺ r) (y ⧺ r) a in
@@ -280,7 +280,7 @@ least_cut g s x y r a =
 some_of : (g : Grammar) (s : Syntax) (x y r : Stream) → some_number (lowest g) ≡ true → Derived g s (x ⧺ r) (y ⧺ r) → some_tree x ≡ true
 some_of g s x y r w a = let p = some_cut g s x y r a in let q = one_least (lowest g) w in some_size x (omega (arith, p, q))
 
--- a look that asks for no fact
+-- a look that tests no fact
 plain_stays : (l : Look) (b : Bool) (x r : Stream) → no (asks_fact l) ≡ true → unjoined x ≡ true → some_tree x ≡ true → stands l (x ⧺ r) ≡ b → stands l x ≡ b
 plain_stays l b x r w u e h = sym (by_terminal l (lookahead (x ⧺ r)) (lookahead x) (no_true (asks_fact l) w) (terminal_stays x r u e)) ∙ h
 
@@ -339,7 +339,7 @@ off_stays l h s x y r w u a e = go (or_split (closes closed_of h) _ w)
     go (inl q) = ap (answers l) (closed_cut h s x y r q a).1 ∙ e
     go (inr q) = rest (or_split (fades_look l) _ q)
 
--- ---- what is read where the rest is cut off
+-- ---- the reading where the rest is cut off
 spelled_cut : (xs : List (ℕ × Span)) (x y r : Stream) → Spelled xs (x ⧺ r) (y ⧺ r) → Spelled xs x y
 spelled_cut xs x y r h =
     let (c, e, k) = spelled_alone xs (x ⧺ r) (y ⧺ r) h in
@@ -349,7 +349,7 @@ spelled_cut xs x y r h =
 abbrev Part : Stream → Stream → Type 0
 Part m r = (n : Stream) × (m ≡ n ⧺ r)
 
--- what stands before what is left of a stream
+-- the tokens before the rest of a stream
 part_before : (c y m r : Stream) → m ≡ c ⧺ (y ⧺ r) → m ≡ (c ⧺ y) ⧺ r
 part_before c y m r e = e ∙ sym (append_append c y r)
 
@@ -433,7 +433,7 @@ mutual
       )
   cut_row g h _ x y r w u e a = elim a [ ]
 
--- ---- the last token that is shown of what was read is no mark that is joined to what follows
+-- ---- the last shown token of a value is no mark that is joined to what follows
 abbrev spaced : Grammar → Bool
 spaced empty = true
 spaced (token b k) = true

@@ -33,7 +33,7 @@ node_derived : (k : Rule) (t : Syntax) (ts r : Stream) → DerivesPrefix table (
 node_derived k (Node t) ts r d = d
 node_derived k _ ts r d = elim d [ ]
 
--- what is kept as its tokens stood there
+-- verbatim tokens are the tokens that were read
 cut : (g : Grammar) (t : Syntax) (ts r : Stream) → DerivesNode (captured g) t ts r → ts ≡ before ts r ⧺ r
 cut g (Node (Captured t i)) ts r d = d.0 ∙ ap (λ c. c ⧺ r) (sym (before_is ts i r d.0))
 cut g _ ts r d = elim d [ ]

@@ -1,4 +1,4 @@
--- Where the rest behind a stream is cut off: each token keeps its terminal, and most facts, where they were false, stay false.
+-- Where the rest after a stream is cut off, each token keeps its terminal, and most facts that were false stay false.
 use Rattle.std.proofs.Common.{◌≡◌, ℕ, ◌≤◌, Bool, true, false, List, [], ◌∷◌, nat_eq, refl, sym, ap, ap₂, ◌∙◌, true≢false, ◌⊎◌, inl, inr, arith}
 use Rattle.syn_grammar.specs.Words.{w_crate, w_self, w_super, w_Self_type, w_mut, w_static, w_async, w_const, w_unsafe, w_union, w_auto, w_default, exclamation, colon, pound, less, contextual}
 use Rattle.syn_grammar.specs.Tokens.{Span, Stream, end, leaf, punct, group, ◌⧺◌, or, and, no, pick, one_of_texts, same_text, Terminal, Ended, Name, Word, Punctuation, Literal, Delimited, Lookahead, Fact, Before_equals, Before_end, Before_colons, Before_paren, Before_less, Before_bang, Before_own_self, Before_parameter, Not_item, same_fact, has_fact, Look, ended, at_name, at_word, at_mark, at_literal, at_group, at_empty_group, ahead, ◌or_else◌, ◌and_also◌, ◌but_not◌, answers, is_ended, is_name, is_word, starts_mark, is_literal, is_group, is_empty_group, Asked, facts_for, asked, leaf_terminal, join, char_terminal, lone_facts, punctuation_facts, lookahead}
@@ -86,7 +86,7 @@ fades_look (a and_also b) = and (fades_look a) (fades_look b)
 fades_look (a but_not b) = and (fades_look a) (no (asks_fact b))
 fades_look c = true
 
--- the rest behind the first lookahead is cut off in the second
+-- the rest after the first lookahead is cut off in the second
 abbrev pub Faded : Lookahead → Lookahead → Type 0
 Faded a b = (b ≡ lookahead end) ⊎ ((a.terminal ≡ b.terminal) × ((n : Fact) → fades n ≡ true → has_fact n a.facts ≡ false → has_fact n b.facts ≡ false))
 
@@ -129,7 +129,7 @@ pub look_fades : (c : Look) (a b : Lookahead) → fades_look c ≡ true → Fade
 look_fades c a b w (inl e) h = ap (answers c) e ∙ off_at_end c w
 look_fades c a b w (inr (e, k)) h = stays_false a b e k c w h
 
--- what is asked for such facts
+-- the conditions on such facts
 abbrev fade_all : Asked → Bool
 fade_all [] = true
 fade_all (p ∷ l) = and (or (no (fades p.1)) (fades_look p.0)) (fade_all l)
@@ -327,6 +327,6 @@ near_stays (punct c j sp m) r n u h v =
     ap (λ z. has_fact n (punctuation_facts c z (lookahead (m ⧺ r)))) e
     ∙ near_front c (char_terminal c j (lookahead m).terminal) (lookahead (m ⧺ r)) (lookahead m) n (terminal_stays m r w (some_size m (omega (arith, h)))) (near_behind m r n w (omega (arith, h)) v) v
 
--- a look that asks for near facts is answered alike where three trees stand before the rest
+-- a look that tests near facts gives the same result where three trees come before the rest
 pub look_stays : (c : Look) (x r : Stream) → near_look c ≡ true → unjoined x ≡ true → 3 ≤ size x → answers c (lookahead (x ⧺ r)) ≡ answers c (lookahead x)
 look_stays c x r w u h = near_same (lookahead (x ⧺ r)) (lookahead x) (terminal_stays x r u (some_size x (omega (arith, h)))) (λ n v. near_stays x r n u h v) c w

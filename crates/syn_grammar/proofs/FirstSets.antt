@@ -176,7 +176,7 @@ module _ (said : Rule → Start) where
   abbrev pub Begins : Grammar → Stream → Stream → Type 0
   Begins g ts r = (mem (lookahead ts).terminal (first_set g) ≡ true) ⊎ ((nullable g ≡ true) × (ts ≡ r))
 
-  -- what is said of the rules holds of their forms
+  -- what holds of the rules holds of their forms
   abbrev pub IsSaid : (Rule → Grammar) → Type 0
   IsSaid table = (k : Rule) → (subset (first_set (table k)) (said k).first_set ≡ true) × (nullable (table k) ≡ true → (said k).nullable ≡ true)
 

@@ -1,4 +1,4 @@
--- FULL FORMS: what they read, they print in its order, but for what is never printed. Of each form there is a full one that reads the same tokens.
+-- FULL FORMS print what they read in its order, except parts that are never printed. Each form has a full one that reads the same tokens.
 use Rattle.std.proofs.Common.{◌≡◌, ℕ, Bool, true, false, List, refl, sym, ap, ap₂, ◌∙◌, subst, true≢false, inl, inr}
 use Rattle.syn_grammar.specs.Tokens.{Span, Stream, end, punct, ◌⧺◌, and, at_generics, Fact, pick}
 use Rattle.syn_grammar.specs.Rules.{Rule}
@@ -32,7 +32,7 @@ full (row g h) = row (either (full g) (full h)) (either (full g) (full h))
 full (ordered g h) = ordered (either (full g) (full h)) (either (full g) (full h))
 full g = g
 
--- where what is shown of a rule is read, its form is full
+-- if the shown tokens of a rule are read, its form is full
 abbrev pub full_table : Rule → Grammar
 full_table k = pick (reads_shown k) (full (table k)) (table k)
 
@@ -57,7 +57,7 @@ full_tree (More false s sp t) = More true (Right (full_tree s)) sp (full_tree t)
 full_tree (Order xs l ys) = Order xs (full_tree l) ys
 full_tree s = s
 
--- each rule of the form is one of which what is shown is read, and what is captured ends by itself
+-- the shown tokens of each rule of the form are read, and what is captured ends by itself
 abbrev pub shown_well : Grammar → Bool
 shown_well (g & h) = and (shown_well g) (shown_well h)
 shown_well (when c then g else h) = and (shown_well g) (shown_well h)
@@ -122,7 +122,7 @@ module _ (law : (k : Rule) → reads_shown k ≡ true → shown_well (table k) �
   full_read (ordered g h) (Order xs l ys) ts r w (m, e, d, m', a, e', d') = (m, e, d, m', full_read (row g h) l m m' w a, e', d')
   full_read _ _ ts r w a = elim a [ ]
 
--- ---- its print is that of the tree, nothing dropped and nothing sorted
+-- ---- it prints as the tree does, nothing dropped and nothing sorted
 sort_full : (s : Syntax) → sort (renew (full_tree s)) ≡ renew (full_tree s)
 sort_full (Vanishing true s) = refl
 sort_full (Vanishing false s) = sort_full s
@@ -153,7 +153,7 @@ show_full (More false s sp t) = ap₂ (λ a b. a ⧺ punct 44 false sp b) (show_
 show_full (Order xs l ys) = ap (λ a. spell xs (show a ⧺ spell ys end)) (sort_full l) ∙ ap (λ a. spell xs (a ⧺ spell ys end)) (show_full l)
 show_full _ = refl
 
--- ---- and the form reads what is printed, as a tree of the same value
+-- ---- and the form reads its print, as a tree of the same value
 -- some tree of the value of this one
 abbrev pub Alike : Grammar → Syntax → Stream → Stream → Type 0
 Alike g s ts r = (u : Syntax) × DerivesPrefix table g u ts r × (value_of u ≡ value_of s)

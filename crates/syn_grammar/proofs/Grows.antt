@@ -1,4 +1,4 @@
--- A grammar that has grown reads what the grammar before read, lifted.
+-- A grammar that has grown reads everything that the earlier grammar reads, as the lifted tree.
 use Rattle.std.proofs.Common.{◌≡◌, Bool, true, false, List, [], ◌∷◌, refl, sym, ap, ap₂, ◌∙◌, subst, true≢false, ◌⊎◌, inl, inr}
 use Rattle.syn_grammar.specs.Tokens.{Brace, Stream, end, ◌⧺◌, or, and, no, pick, Terminal, Ended, Name, Word, Punctuation, Literal, Delimited, mem, same_text, same_fact, Look, at_group, lookahead, stands, is_group}
 use Rattle.syn_grammar.specs.Rules.{Rule, attributes, trait_definition, trait_definition_rest, impl_definition, impl_definition_rest, odd_impl, const_trait, const_impl, odd_const_impl, kept_item, kept_item_rest, kept_in_block, statements, statement, after_block, after_expression, array_content, assigned, bit_and, bit_ands, bit_or, bit_ors, bit_xor, bit_xors, cast, compared, comparison, conjunction, conjunctions, disjunction, disjunctions, expressions, file, item, items, literal_field, literal_fields, named_field, named_fields, operand_rest, primary, product, products, root_mark, rooted_tree, rooted_trees, shift, shifts, statement_rest, sum, sums, unary, use_tree, use_trees, variant, variants, whole_expression}
@@ -31,7 +31,7 @@ abbrev pub is_empty : Grammar → Bool
 is_empty empty = true
 is_empty _ = false
 
--- where this is true, no brace group stands next
+-- where this is true, the next token is no brace group
 abbrev Free : Bool → Stream → Type 0
 Free a r = a ≡ true → stands at_brace_group r ≡ false
 
@@ -41,7 +41,7 @@ Free a r = a ≡ true → stands at_brace_group r ≡ false
 abbrev needs : Rule → Bool
 needs k = among k (expressions ∷ array_content ∷ primary ∷ literal_fields ∷ literal_field ∷ unary ∷ cast ∷ products ∷ product ∷ sums ∷ sum ∷ shifts ∷ shift ∷ bit_ands ∷ bit_and ∷ bit_xors ∷ bit_xor ∷ bit_ors ∷ bit_or ∷ compared ∷ comparison ∷ conjunctions ∷ conjunction ∷ disjunctions ∷ disjunction ∷ assigned ∷ whole_expression ∷ operand_rest ∷ statements ∷ statement_rest ∷ after_block ∷ after_expression ∷ named_fields ∷ named_field ∷ variant ∷ variants ∷ [])
 
--- outside of groups it reads no item that may be kept as tokens
+-- outside of groups it reads no item that may be verbatim
 abbrev calm : Rule → Bool
 calm k = no (among k (statements ∷ statement_rest ∷ after_block ∷ after_expression ∷ statement ∷ item ∷ items ∷ file ∷ []))
 
@@ -126,7 +126,7 @@ grows b a (row g h) (row g' h') = and (grows b false g g') (grows b false h h')
 grows b a (ordered g h) (ordered g' h') = and (grows b false g g') (grows b false h h')
 grows b a _ _ = false
 
--- so it is of each rule
+-- the same of each rule
 abbrev good_rule : Bool → Rule → Bool
 good_rule b k = or (or (is_part k) (or (is_list k) (no (or b (calm k))))) (grows b (needs k) (before k) (table k))
 
@@ -265,7 +265,7 @@ reads_nothing empty Nothing ts r e x = x
 reads_nothing empty _ ts r e x = elim x [ ]
 reads_nothing _ s ts r e x = absurd (true≢false (sym e))
 
--- what stands at the place of this rule
+-- what is read in the place of this rule
 abbrev ready_one : Bool → Bool → Rule → List Rule → Bool
 ready_one b a k ls = pick (same_rule k kept_item) (and b (has_kinds ls)) (and (among k ls) (may_name b a k))
 
@@ -297,7 +297,7 @@ kept_before = rules_of (before kept_item_rest)
 abbrev kept_now : List Rule
 kept_now = rules_of (table kept_item_rest)
 
--- none of them is an item that is kept as tokens; and each but three is one of today
+-- none of them is a verbatim item; each but three is a rule of today
 abbrev good_form : Rule → Bool
 good_form k = implies (among k kept_before) (and (no (same_rule k kept_item)) (or (is_moved k) (and (among k kept_now) (and (no (is_part k)) (and (no (is_list k)) (no (needs k)))))))
 
@@ -350,7 +350,7 @@ abbrev other_side : Grammar → Grammar
 other_side (either g h) = h
 other_side g = g
 
--- what a list of statements is where it isn't empty; behind a `;` alone; and where a statement stands next
+-- a list of statements that isn't empty; after a `;` alone; and where a statement is next
 abbrev some_statements : Grammar
 some_statements = else_of (table statements)
 
@@ -360,7 +360,7 @@ behind_semicolon = then_of (within some_statements)
 abbrev some_statement : Grammar
 some_statement = else_of (within some_statements)
 
--- an item that was kept as tokens, in a list of statements, is that item
+-- an item that was verbatim, in a list of statements, is that item
 listed_becomes : (k : Rule) (c s l : Syntax) (i ts m n r : Stream) → ts ≡ i ⧺ n → DerivesPrefix table (rule attributes) c ts m → stands at_item m ≡ true → Becomes k s m n → DerivesPrefix table (rule statements) l n r →
     DerivesPrefix table some_statement (lift_shaped listed (Left (Both (Shaped an_item (Node (Captured (Both c (Left (Node (Case k (lift_in true s))))) i))) l))) ts r
 listed_becomes k c s l i ts m n r q x h (a_trait e y) z =
@@ -402,7 +402,7 @@ calm_list : (b : Bool) (k : Rule) → is_list k ≡ true → or b (calm k) ≡ t
 calm_list true k e w = refl
 calm_list false k e w = absurd (true≢false (sym w ∙ no_true (calm k) (by_implied (is_list k) _ (of_every_rule (λ k. implies (is_list k) (no (calm k))) refl refl k) e)))
 
--- what is read at the place of a rule that is no item that is kept as tokens
+-- what is read in the place of a rule that reads no verbatim item
 case_at : (b : Bool) (k : Rule) (s : Syntax) (ts r : Stream) (ls : List Rule) → same_rule k kept_item ≡ false → among k ls ≡ true → DerivesPrefix table (table k) (lift_in b s) ts r → DerivesPrefix table (one_of ls) (lift_in b (Case k s)) ts r
 case_at b k s ts r ls e n y = subst (λ v. DerivesPrefix table (one_of ls) (pick v (lift_item (lift_in b s)) (Case k (lift_in b s))) ts r) (sym (and_off b (same_rule k kept_item) e)) (n, y)
 
@@ -414,7 +414,7 @@ case_kept false k s ts r ls e i y = absurd (true≢false (sym i))
 of_rule : (k l : Rule) (s : Syntax) (ts r : Stream) → same_rule k l ≡ true → DerivesPrefix before (before k) s ts r → DerivesPrefix before (before l) s ts r
 of_rule k l s ts r e x = subst (λ z. DerivesPrefix before (before z) s ts r) (same_rule_eq k l e) x
 
--- a form of an item that was kept as tokens: by the growth of its parts
+-- a form of an item that was verbatim: by the growth of its parts
 becomes : (k : Rule) (s : Syntax) (ts r : Stream) → among k kept_before ≡ true →
     (DerivesPrefix before (before const_trait) s ts r → DerivesPrefix table (table trait_definition_rest) (lift_in true s) ts r) →
     (DerivesPrefix before (before const_impl) s ts r → DerivesPrefix table (table impl_definition_rest) (lift_in true s) ts r) →
@@ -584,7 +584,7 @@ mutual
   grown b a (ordered g h) (ordered g' h') _ ts r e F x = elim x [ ]
   grown b a _ _ s ts r e F x = absurd (true≢false (sym e))
 
-  -- an item that was kept as tokens
+  -- an item that was verbatim
   kept_grown : (s : Syntax) (ts r : Stream) (ls : List Rule) → has_kinds ls ≡ true → DerivesPrefix before (before kept_item) s ts r → DerivesPrefix table (one_of ls) (lift_item (lift_in true s)) ts r
   kept_grown (Captured (Both c (Node (Case k s))) i) ts r ls w (q, (m, x, (n, y))) =
       subst (λ z. DerivesPrefix table (one_of ls) (lift_item (Captured (Both (lift_in true c) (Node z)) i)) ts r) (sym (form_lifted k s n))

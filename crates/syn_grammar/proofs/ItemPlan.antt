@@ -20,7 +20,7 @@ use Rattle.syn_grammar.proofs.Starts.{kind_thread, kept_thread, listed_thread, k
 abbrev kinds : List Rule
 kinds = structure ∷ enumeration ∷ union_item ∷ function ∷ const_item ∷ static_item ∷ extern_crate ∷ use_item ∷ module_item ∷ trait_alias ∷ type_item ∷ macro_as_item ∷ trait_definition ∷ impl_definition ∷ foreign_module ∷ []
 
--- a trait behind a restriction, by what stands in the parentheses
+-- a trait after a restriction, by the content of the parentheses
 abbrev in_trait : Thread
 in_trait = listed (rule attributes ∷ rule visibility ∷ plainly (word w_impl) ∷ (when at_in_restriction then inside Paren (rule restriction) else never) ∷ optional w_const ∷ rule bare_trait ∷ [])
 
@@ -35,7 +35,7 @@ kept =
 abbrev pub threads : List Thread
 threads = map kind_thread kinds ++ kept
 
--- behind a piece
+-- after a piece
 abbrev got : Option (Syntax → List Thread) → Syntax → List Thread
 got (Some v) s = v s
 got None s = []
@@ -700,7 +700,7 @@ item_fits = λ a. ((λ v. public_fits a v), ((λ v. unwritten_fits a v), plain_f
 
 -- ---- THE UNION IS THESE ALTERNATIVES
 
--- what stands in the parentheses of a restriction: by whether parentheses stand there, and what they begin with
+-- the content of a restriction's parentheses: by whether there are any, and by its first token
 module _ (m : Stream) (fs : List Grammar) where
   abbrev R : Out
   R = parse_form (inside Paren (rule restriction)) m

@@ -14,7 +14,7 @@ use Rattle.syn_grammar.proofs.Takes.{sees_stands}
 use Rattle.syn_grammar.proofs.Means.{parse_rule_told}
 use Rattle.syn_grammar.proofs.Proved.{one_tree}
 
--- an item's rule, and the rule of what stands behind its attributes
+-- an item's rule, and the rule of what follows its attributes
 abbrev Pair : Type 0
 Pair = Rule × Rule
 
@@ -69,11 +69,11 @@ is_node (Some p) a m e = let i : ◌≡◌ {A = Syntax × Stream} (Node p.0, p.1
 is_node None a m e = absurd (cc e)
 
 module _ (ts m : Stream) (a : Syntax) (outer : parse_rule attributes ts ≡ Some (a, m)) (starts : sees at_item m ≡ true) where
-  -- what stands behind the attributes, of a kind
+  -- what follows the attributes, of a kind
   abbrev F : Out
   F = first_rule parse_rule (rests kinds) m
 
-  -- and kept as tokens
+  -- and verbatim
   abbrev C : Out
   C = caught ts (parse_rule kept_item_rest m)
 
@@ -85,7 +85,7 @@ module _ (ts m : Stream) (a : Syntax) (outer : parse_rule attributes ts ≡ Some
   joined (Some f) o = Some (with_its f.0, f.1)
   joined None o = o
 
-  -- each kind is attributes and what stands behind them
+  -- each kind is attributes and what follows them
   chain : (l : List Pair) → ArePairs l → first_rule parse_rule (wholes l) ts ≡ joined (first_rule parse_rule (rests l) m) (named kept_item (parse_rule kept_item ts) None)
   chain [] w = refl
   chain (p ∷ l) w =
@@ -119,7 +119,7 @@ module _ (ts m : Stream) (a : Syntax) (outer : parse_rule attributes ts ≡ Some
       go None = refl
       go (Some c) = refl
 
-  -- no item is of a kind and kept as tokens
+  -- no item is both of a kind and verbatim
   not_both : (c f : Syntax × Stream) → C ≡ Some c → F ≡ Some f → ⊥
   not_both c f e i =
       let (t, d, x) = parse_rule_told kept_in_block ts (Node c.0, c.1) (blocked ∙ ap (wrap Node) e) in
@@ -143,7 +143,7 @@ module _ (ts m : Stream) (a : Syntax) (outer : parse_rule attributes ts ≡ Some
   wrapped g h (Some p) = refl
   wrapped g h None = refl
 
-  -- the other statements are of no matter where an item stands
+  -- where an item is next, the other statements don't matter
   as_statement : (other : Parser) → parse_rule statement ts ≡ wrap Node (wrap core (first_of (wrap (shape an_item) (parse_rule kept_in_block ts)) (wrap stated (and_then (parse_rule attributes ts) (λ n. branch (sees at_item n) (wrap (shape an_item) (parse_rule item_rest n)) (other n)))))) →
       parse_rule statement ts ≡ wrap item_statement (parse_rule item ts)
   as_statement other is =
@@ -154,7 +154,7 @@ module _ (ts m : Stream) (a : Syntax) (outer : parse_rule attributes ts ≡ Some
       ∙ wrapped Node (Shaped an_item) (wrap Node (joined F (wrap (Case kept_item) C)))
       ∙ ap (wrap item_statement) (sym item_is)
 
-  -- the same in a list, with what is read behind it
+  -- the same in a list, with what is read after it
   abbrev of_list : Out → Out
   of_list o = wrap Node (wrap Right (wrap core (wrap Right (wrap in_list o))))
 

@@ -1,4 +1,4 @@
--- The prints of items, one behind the other, are a file of them.
+-- The prints of items, one after the other, are a file of them.
 use Rattle.std.proofs.Common.{◌≡◌, Bool, true, false, Some, None, refl, sym, ap, ap₂, ◌∙◌, ◌⊎◌, inl, inr, arith, ◌<◌}
 use Rattle.std.specs.Prelude.{List, [], ◌∷◌, map}
 use Rattle.syn_grammar.specs.Words.{pound}
@@ -76,7 +76,7 @@ item_not_ended s ts r d = go (stands ended ts) refl (parse_rule_less item ts (va
     go false e h = refl
     go true e h = let q = ap left (lookahead_end ts e) in absurd (omega (arith, h, q))
 
--- ---- items, one behind the other
+-- ---- items, one after the other
 abbrev Row : Stream → List Syntax → Type 0
 Row p trees = (t : Syntax) × Derives items p t × (map normal (items_among t) ≡ map normal trees)
 

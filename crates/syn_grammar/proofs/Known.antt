@@ -1,4 +1,4 @@
--- What is known of what stands next: what looks say of one another, and of what stands behind a word or in a group.
+-- What is known of the next token: which looks imply others, and what holds after a word or in a group.
 use Rattle.std.proofs.Common.{◌≡◌, Bool, true, false, List, [], ◌∷◌, ◌++◌, map, Option, Some, None, refl, sym, ap, ap₂, ◌∙◌, true≢false, ◌⊎◌, inl, inr}
 use Rattle.std.proofs.lemmas.Bool.{eqb-true, eq-eqb}
 use Rattle.std.proofs.Common.{nat_eq}
@@ -295,7 +295,7 @@ noted_is (ahead x) v l f h e = (e, h)
 
 -- ---- WHAT A WORD TELLS OF WHAT STANDS BEHIND IT
 
--- where a word tells this fact, this look holds of what stands behind it
+-- where a word has this fact, this look holds of what follows it
 abbrev pub asked_for : Fact → Asked → Look
 asked_for n [] = ended but_not ended
 asked_for n (p ∷ l) = pick (same_fact n p.1) (p.0 or_else asked_for n l) (asked_for n l)
@@ -315,7 +315,7 @@ asked_for_is n (p ∷ l) f = go (same_fact n p.1) (answers p.0 f) refl refl (ask
     go false true a b ih = ih ∙ ap (λ z. or z (has_fact n (facts_for l f))) (sym a)
     go false false a b ih = ih
 
--- what is known behind this word
+-- what is known after this word
 abbrev pub behind_word : Text → Known → Known
 behind_word x [] = []
 behind_word x ((ahead n, v) ∷ l) = noted (asked_for n (asked (Word x))) v (behind_word x l)
@@ -345,7 +345,7 @@ pub again_is : (base l : Known) (f : Lookahead) → Holds base f → Holds l f �
 again_is base [] f h i = h
 again_is base (p ∷ l) f h i = noted_is p.0 p.1 (again base l) f (again_is base l f h i.1) i.0
 
--- the word that is known to stand next
+-- the word that is known to be next
 abbrev pub known_word : Known → Option Text
 known_word [] = None
 known_word ((at_word x, true) ∷ l) = Some x
@@ -373,7 +373,7 @@ abbrev pub after_word : Option Text → Known → Known
 after_word (Some x) l = behind_word x (again ((at_word x, true) ∷ []) l)
 after_word None l = []
 
--- what is known behind a token of this kind
+-- what is known after a token of this kind
 abbrev pub after_token : Kind → Known → Known
 after_token (word x) l = after_word (Some x) l
 after_token k l = after_word (known_word l) l
@@ -398,7 +398,7 @@ after_token_is (name_or xs) l y sp r e h = after_word_is (known_word l) l y sp r
 after_token_is (literal_of ks) l y sp r e h = after_word_is (known_word l) l y sp r h (known_word_is l (lookahead (leaf y sp r)) h)
 after_token_is index l y sp r e h = after_word_is (known_word l) l y sp r h (known_word_is l (lookahead (leaf y sp r)) h)
 
--- what is known of the content of a group with this delimiter
+-- what is known about the content of a group with this delimiter
 abbrev pub inside_group : Delimiter → Known → Known
 inside_group d [] = []
 inside_group d ((ahead n, v) ∷ l) = noted (asked_for n (asked_inside d)) v (inside_group d l)

@@ -1,4 +1,4 @@
--- What leads an impl is seen in its tokens as in its print.
+-- Whether generics lead an impl is seen in its tokens as in its print.
 use Rattle.std.proofs.Common.{◌≡◌, ℕ, Bool, true, false, List, [], ◌∷◌, ◌++◌, Some, None, refl, sym, ap, ap₂, ◌∙◌, subst, true≢false, ◌⊎◌, inl, inr}
 use Rattle.std.specs.Prelude.{nat_eq}
 use Rattle.syn_grammar.specs.Words.{Text, keywords, contextual, w_as, w_const, w_for, w_self, w_super, w_crate, w_Self_type, long_marks, less, less_equals, greater, pound, lifetime_mark, colon, colons, exclamation}
@@ -25,9 +25,9 @@ use Rattle.syn_grammar.proofs.Means.{told, parse_rule_told}
 use Rattle.syn_grammar.proofs.Alone.{of_every_rule, one_said}
 use Rattle.syn_grammar.proofs.ToldByTokens.{word_leaf}
 
--- ---- A CHARACTER STANDS FIRST: of marks only those that begin with it
+-- ---- A CHARACTER IS FIRST: the only marks there are those that begin with it
 
--- a type goes on from the name before this
+-- a type continues from the name before this
 abbrev type_goes_on : Look
 type_goes_on = at_mark colons or_else at_mark less but_not at_mark less_equals or_else at_group Paren or_else at_word w_as
 
@@ -71,7 +71,7 @@ no_name c j sp m = ap is_name (a_mark c j (lookahead m).terminal).1
 no_group : (d : Delimiter) (c : ℕ) (j : Bool) (sp : Span) (m : Stream) → stands (at_group d) (punct c j sp m) ≡ false
 no_group d c j sp m = ap (is_group d) (a_mark c j (lookahead m).terminal).1
 
--- first characters by which no list goes on, and by which no generics begin
+-- first characters that continue no list, and that begin no generics
 abbrev off_list : ℕ → Bool
 off_list c = and (no (nat_eq c 62)) (and (no (nat_eq c 35)) (no (nat_eq c 39)))
 
@@ -101,7 +101,7 @@ less_off (group d o c i m) e = refl
 less_off end e = absurd (true≢false (sym e))
 less_off (leaf x sp m) e = absurd (true≢false (sym e))
 
--- no type goes on by such a character
+-- no such character continues a type
 type_off : (c : ℕ) (j : Bool) (sp : Span) (m : Stream) → nat_eq c 58 ≡ false → nat_eq c 60 ≡ false → stands type_goes_on (punct c j sp m) ≡ false
 type_off c j sp m e f =
     ap₂ or (no_colons c j sp m e) (ap₂ or (ap (λ z. and z (no (stands (at_mark less_equals) (punct c j sp m)))) (one_mark 60 c j sp m f)) (ap₂ or (no_group Paren c j sp m) (no_word w_as c j sp m)))
@@ -137,7 +137,7 @@ dull_read t (when c then g else h) (Right s) ts r w (v, a) = dull_read t h s ts 
 dull_read t (inside d g) (Group d' o c s) ts r w (p, i, f, a) = (ap (clear t) f, λ us. refl)
 dull_read t _ _ ts r w h = search false_true
 
--- this look answers alike of what was read and of its print
+-- this look gives the same result for what was read and for its print
 abbrev Alike : Look → Syntax → Stream → Stream → Type 0
 Alike c s ts us = stands c (print s ⧺ us) ≡ stands c ts
 
@@ -160,7 +160,7 @@ module _ (t : ℕ → Bool) (c : Look) (off : (ts : Stream) → clear t ts ≡ t
   by_path r us base (rule k) _ ts w x = elim x [ ]
   by_path r us base g s ts w x = dull_alike g s ts r us w x
 
--- ---- BEHIND THE FIRST WORD of a path: whether a type goes on there
+-- ---- AFTER THE FIRST WORD of a path: whether a type continues there
 abbrev Onward : Stream → Stream → Type 0
 Onward ts us = stands type_goes_on us ≡ stands type_goes_on ts
 
@@ -222,7 +222,7 @@ arguments _ ts r us x w = elim x [ ]
 
 -- ---- THE FIRST WORD itself
 
--- of what a token asks, this fact tells this look alone
+-- of the conditions of a token, this fact reports this look alone
 abbrev tells_only : Fact → Look → Asked → Bool
 tells_only n c [] = true
 tells_only n c (p ∷ l) = and (or (no (same_fact n p.1)) (same_look p.0 c)) (tells_only n c l)
@@ -260,7 +260,7 @@ no_less (ident x) sp m = go (one_of_texts x (keywords ++ contextual)) (stands (a
     go true v = refl
     go false v = refl
 
--- a word and what stands behind it
+-- a word and what follows it
 abbrev first_word : Grammar
 first_word = when at_named_word then token first_type_facts (name_or (w_Self_type ∷ [])) & shaped untagged (when at_arguments then rule type_arguments else empty) else token first_type_facts (name_or (w_self ∷ w_super ∷ w_crate ∷ [])) & no_arguments
 
@@ -341,7 +341,7 @@ behind_less j sp m =
     ap (λ z. and z (stands (ahead Before_parameter) (punct 60 j sp m))) (sym (sees_stands (at_mark less) (punct 60 j sp m)) ∙ sees_one 60 (punct 60 j sp m))
     ∙ less_facts j (lookahead m).terminal (lookahead m).facts ∙ told_or_not (stands lists_on m)
 
--- ---- A QUALIFIED PATH, behind its first type
+-- ---- A QUALIFIED PATH, after its first type
 abbrev first_end : Grammar
 first_end = when at_word w_as then plainly (word w_as) & rule type_path else unshown
 
@@ -371,7 +371,7 @@ less_alike (x ∷ []) ts m us e h w =
     ap (λ z. stands at_generics (punct z false x.1 us)) n ∙ behind_less false x.1 us ∙ w ∙ sym (ap (stands at_generics) (h.1 ∙ ap (λ z. punct z h.0 x.1 m) n) ∙ behind_less h.0 x.1 m)
 less_alike (x ∷ y ∷ l) ts m us e h w = absurd (cc e)
 
--- what stands behind its first type
+-- what follows its first type
 abbrev qualified_rest : Grammar
 qualified_rest = first_end & punctuation greater & punctuation colons & rule type_words
 
@@ -392,7 +392,7 @@ qualified_alike (Both _ u) ts r us (m, x, y) = elim x [ ]
 qualified_alike _ ts r us x = elim x [ ]
 
 -- ---- A PATH AND A TYPE, printed before anything
--- some path goes on before this or before that: of its first word it is of no interest here
+-- whether some path continues before this or before that: its first word doesn't matter here
 words_off : (s : Syntax) (ts r us : Stream) → DerivesPrefix table (table type_words) s ts r → (stands at_generics ts ≡ false) × (stands at_generics (print s ⧺ us) ≡ false)
 words_off (Both (Shaped j (Left (Both (Token x sp) a))) u) ts r us (m, (i, (v, (n, (e, f), y))), z) = (ap (stands at_generics) f ∙ no_less x sp n, no_less x sp ((print a ⧺ print u) ⧺ us))
 words_off (Both (Shaped j (Left (Both _ a))) u) ts r us (m, (i, (v, (n, x, y))), z) = elim x [ ]

@@ -31,33 +31,7 @@ pub mod Begins
 pub mod Turns
 pub mod PrintedValues
 pub mod Shown
-pub mod ExamplesOfAttributes
-mod ExamplesOfAllItems
-mod ExamplesOfDefinitionBorders
-mod ExamplesOfExpressions
-mod ExamplesOfFields
-mod ExamplesOfFunctions
-mod ExamplesOfGenerics
-mod ExamplesOfHeadBorders
-mod ExamplesOfHeads
-mod ExamplesOfImplBorders
-mod ExamplesOfItems
-mod ExamplesOfKeptBorders
-mod ExamplesOfLiterals
-mod ExamplesOfMemberBorders
-mod ExamplesOfOperators
-mod ExamplesOfPaths
-mod ExamplesOfPatterns
-mod ExamplesOfPlaceBorders
-mod ExamplesOfSignatureBorders
-mod ExamplesOfSmallItems
-mod ExamplesOfStatements
-mod ExamplesOfTraits
-mod ExamplesOfTypes
-mod ExamplesOfUseBorders
-mod ExamplesOfValueBorders
 pub mod Shapes
-mod WorkedValues
 pub mod Same
 pub mod PlainValues
 pub mod Alone

@@ -1,4 +1,4 @@
--- The name of an item stands behind the word of its kind.
+-- The name of an item follows the word of its kind.
 use Rattle.std.proofs.Common.{◌≡◌, ℕ, Bool, true, false, None, refl, sym, ap, ap₂, ◌∙◌, subst, true≢false, ◌⊎◌, inl, inr}
 use Rattle.std.specs.Prelude.{List, [], ◌∷◌, ◌++◌, map, nat_eq}
 use Rattle.syn_grammar.specs.Words.{Text, keywords, contextual, w_async, w_auto, w_const, w_crate, w_enum, w_extern, w_fn, w_mod, w_mut, w_static, w_struct, w_trait, w_try, w_type, w_union, w_unsafe, exclamation, semicolon}
@@ -196,7 +196,7 @@ named b k h s ts r d = let (n, a, c) = in_sequence (token b k) h s ts r d in nam
 abbrev Ahead : Rule → Type 0
 Ahead k = (ts : Stream) (s : Syntax) (r : Stream) → DerivesPrefix table (table k) s ts r → name_in k (behind_attributes s) ≡ name_ahead k ts
 
--- no rule that may stand before a name reads this word
+-- no rule that may come before a name reads this word
 abbrev ClearOf : Text → Type 0
 ClearOf w = Clear before_words (a_word w)
 
@@ -361,7 +361,7 @@ bang_passed s ts r d = go (in_choice at_bang (asking_punctuation exclamation) ne
     go (inl (e, d)) = bang (of_choice s) d
     go (inr (e, d)) = never_read (of_choice s) ts r d
 
--- the name of a macro, where one stands before its group
+-- the name of a macro, where there is one before its group
 macro_name_stands : (s : Syntax) (ts r : Stream) → DerivesPrefix table ((when at_macro_name then plainly (name_or (w_try ∷ [])) else empty) & rule macro_end) s ts r →
     name_next ts ≡ token_name (of_choice (first_part s))
 macro_name_stands s ts r d =

@@ -26,7 +26,7 @@ in_unshown : (s : Syntax) (ts r : Stream) → DerivesPrefix table unshown s ts r
 in_unshown (Unshown s) ts r d = d.1
 in_unshown _ ts r d = elim d [ ]
 
--- its inner attributes, and what stands behind them
+-- its inner attributes, and what follows them
 in_file : (tree : Syntax) (ts : Stream) → Derives file ts tree → (a t : Syntax) × (m : Stream) × DerivesPrefix table (rule inner_attributes) a ts m × Derives items m t
 in_file tree ts d =
     let s = of_rule tree in
@@ -40,7 +40,7 @@ in_file tree ts d =
 of_file : (a t : Syntax) (ts m : Stream) → DerivesPrefix table (rule inner_attributes) a ts m → Derives items m t → Derives file ts (file_of a t)
 of_file a t ts m b c = (ts, (refl, refl), (ts, (refl, refl), (m, b, c)))
 
--- an item, and the items behind it
+-- an item, and the items after it
 in_items : (t : Syntax) (m : Stream) → stands ended m ≡ false → Derives items m t → (s u : Syntax) × (r : Stream) × DerivesPrefix table (rule item) s m r × Derives items r u
 in_items t m e d = go (in_choice ended empty (rule item & rule items) (of_rule t) m end (in_rule items t m end d))
   where

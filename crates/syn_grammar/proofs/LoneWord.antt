@@ -1,4 +1,4 @@
--- Behind `impl`, parentheses that hold one word: a restriction and a type read them alike, but for the value.
+-- Parentheses with one word after `impl`: a restriction and a type read the same tokens, as different values.
 use Rattle.std.proofs.Common.{◌≡◌, ℕ, Bool, true, false, ◌++◌, Some, refl, sym, ap, ◌∙◌, subst, true≢false, ◌⊎◌, inl, inr}
 use Rattle.syn_grammar.specs.Words.{Text, keywords, contextual, w_crate, w_self, w_super}
 use Rattle.syn_grammar.specs.Tokens.{Span, Paren, ident, literal, Stream, end, leaf, punct, group, and, or, no, pick, one_of_texts, Before_end, Lone_word, has_fact, Terminal, Name, Word, Punctuation, is_ended, is_word, is_group, ended, at_word, ahead, ◌or_else◌, ◌and_also◌, ◌but_not◌, answers, asked, asked_inside, facts_for, leaf_terminal, char_terminal, lookahead}

@@ -1,4 +1,4 @@
--- What stands next is told by what can be taken there.
+-- A look holds of the next token exactly where that token can be taken.
 use Rattle.std.proofs.Common.{◌≡◌, ℕ, Bool, true, false, List, [], ◌∷◌, ◌++◌, map, nat_eq, Option, Some, None, ◌⊎◌, inl, inr, refl, sym, ap, ap₂, ◌∙◌, subst, true≢false}
 use Rattle.std.proofs.lemmas.Bool.{eqb-true, eq-eqb}
 use Rattle.syn_grammar.specs.Words.{Text, keywords, contextual, long_marks, lifetime_mark}
@@ -305,7 +305,7 @@ sees_chars (c ∷ e ∷ l) w (leaf x sp m) = leaf_mark (c ∷ e ∷ l) x
 sees_chars (c ∷ []) w (group d o q i m) = refl
 sees_chars (c ∷ e ∷ l) w (group d o q i m) = refl
 
--- a mark stands next where it can be taken, however the characters behind it are joined
+-- a mark is next where it can be taken, whatever the spacing of its last character
 pub sees_mark : (cs : Text) → known_mark cs ≡ true → (ts : Stream) → sees (at_mark cs) ts ≡ taken (take_mark cs ts)
 unfolding sees lookahead_at take_mark
 sees_mark cs w ts = sees_chars cs w ts ∙ of_marked (take_chars cs ts)
@@ -330,7 +330,7 @@ longest_off m (x ∷ ms) t one w e = go (begins_text x t) (longest_off m ms t on
     go true ih = no_true (begins_text m x) (and_left (no (begins_text m x)) _ w)
     go false ih = ih
 
--- a lifetime stands next where it can be taken: its `'` is joined to an identifier
+-- a lifetime is next where it can be taken: its `'` is joined to an identifier
 pub sees_lifetime : (ts : Stream) → sees at_lifetime ts ≡ taken (take_lifetime ts)
 unfolding sees lookahead_at take_lifetime
 sees_lifetime end = refl

@@ -1,4 +1,4 @@
--- The marks of the plans stand where they should.
+-- The marks of the plans are in the right places.
 use Rattle.std.proofs.Common.{false, refl}
 use Rattle.syn_grammar.specs.Grammar.{Syntax}
 use Rattle.syn_grammar.specs.Plan.{Marked}

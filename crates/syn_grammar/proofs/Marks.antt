@@ -1,4 +1,4 @@
--- How tokens and marks print: the lookahead that a token or a mark is seen with, and what it tells of what stands behind it.
+-- How tokens and marks print: the lookahead at a token or a mark, and the facts it has of what follows.
 use Rattle.std.proofs.Common.{◌≡◌, ℕ, Bool, true, false, List, [], ◌∷◌, ◌++◌, nat_eq, refl, sym, ap, ◌∙◌, ap₂, subst, true≢false, ◌⊎◌, inl, inr}
 use Rattle.std.proofs.lemmas.Bool.{eqb-true, eq-eqb}
 use Rattle.syn_grammar.specs.Words.{Text, lifetime_mark, long_marks}
@@ -41,7 +41,7 @@ spell_spelled [] ts r r' h = h
 spell_spelled (x ∷ []) ts r r' h = (false, refl)
 spell_spelled (x ∷ y ∷ l) ts r r' h = (spell (y ∷ l) r', refl, spell_spelled (y ∷ l) h.0 r r' h.2)
 
--- no character of this mark asks what follows it
+-- no character of this mark tests what follows it
 abbrev pub quiet_mark : Text → Bool
 quiet_mark [] = true
 quiet_mark (c ∷ l) = and (quiet (Punctuation (c ∷ []))) (quiet_mark l)
@@ -63,7 +63,7 @@ lone_still : (g : Terminal) (c : ℕ) (f : Lookahead) → facts_for (asked (Punc
 lone_still (Punctuation (x ∷ [])) c f e = e
 lone_still _ c f e = refl
 
--- a quiet mark tells nothing, in the print and in the source
+-- a quiet mark has no facts, in the print and in the source
 printed_still : (cs : Text) (f : Lookahead) → some_text cs ≡ true → quiet_mark cs ≡ true → (mark_lookahead cs f).facts ≡ []
 printed_still [] f e q = absurd (true≢false (sym e))
 printed_still (c ∷ []) f e q = silent_fact (asked (Punctuation (c ∷ []))) f (and_left (quiet (Punctuation (c ∷ []))) _ q)
@@ -95,7 +95,7 @@ abbrev pub none_begins : ℕ → ℕ → List Text → Bool
 none_begins y d [] = true
 none_begins y d (m ∷ l) = and (begins_otherwise y d m) (none_begins y d l)
 
--- no mark that it holds of goes on a mark from this character
+-- no mark that it holds of continues a mark from this character
 abbrev pub deaf : ℕ → Look → Bool
 deaf y (at_mark []) = false
 deaf y (at_mark (d ∷ x)) = none_begins y d long_marks
@@ -160,7 +160,7 @@ abbrev pub all_deaf : ℕ → Asked → Bool
 all_deaf y [] = true
 all_deaf y (p ∷ l) = and (deaf y p.0) (all_deaf y l)
 
--- of what is asked nothing holds of a mark, or the character before it stays alone
+-- none of the conditions holds of a mark, or the character before it stays alone
 pub heard_or_none : (y : ℕ) (a : Asked) (x : Text) (l : List Fact) → all_deaf y a ≡ true → (facts_for a (lookahead_with (Punctuation x) l) ≡ []) ⊎ (longest long_marks (y ∷ x) (y ∷ []) ≡ y ∷ [])
 heard_or_none y [] x l e = inl refl
 heard_or_none y (p ∷ a) x l e = go (answers p.0 (lookahead_with (Punctuation x) l)) refl (heard_or_none y a x l (and_right (deaf y p.0) _ e))
@@ -171,7 +171,7 @@ heard_or_none y (p ∷ a) x l e = go (answers p.0 (lookahead_with (Punctuation x
     go false i (inr k) = inr k
     go false i (inl k) = inl (ap (λ v. pick v (p.1 ∷ facts_for a (lookahead_with (Punctuation x) l)) (facts_for a (lookahead_with (Punctuation x) l))) i ∙ k)
 
--- a mark of one character, or of two that is seen whole, tells what its last character asks
+-- a mark of one character, or of two that is seen whole, reports what its last character tests
 abbrev pub last_asked : Text → Asked
 last_asked (c ∷ []) = asked (Punctuation (c ∷ []))
 last_asked (c ∷ d ∷ []) = asked (Punctuation (d ∷ []))
@@ -202,7 +202,7 @@ told_facts (x ∷ y ∷ []) ts r f h q e A =
     go false g B = same_facts_for g B
     go true g B = at g.terminal refl
       where
-        -- a `'` asks nothing of what stands behind it
+        -- a `'` tests nothing of what follows it
         identifier : (g : Lookahead) → Agree (ahead_looks (asked (Punctuation (y.0 ∷ [])))) g f → lone_facts (before_identifier y.0) (punctuation_facts y.0 (before_identifier y.0) g) ≡ facts_for (asked (Punctuation (y.0 ∷ []))) f
         identifier g B = of_punctuation (nat_eq y.0 39) refl
           where
@@ -226,7 +226,7 @@ told_facts (x ∷ y ∷ []) ts r f h q e A =
         at (Delimited d v) i = same_facts_for g B
 told_facts (x ∷ y ∷ z ∷ l) ts r f h q e A = absurd (true≢false (sym q))
 
--- what a token with this terminal asks of what follows, for these facts
+-- the conditions of a token with this terminal on what follows, for these facts
 abbrev pub kept_looks : List Fact → Asked → List Look
 kept_looks k [] = []
 kept_looks k (p ∷ l) = pick (has_fact p.1 k) (p.0 ∷ kept_looks k l) (kept_looks k l)
@@ -243,7 +243,7 @@ all_kept_agree k (p ∷ l) a b w h = go (has_fact p.1 k) (and_left (has_fact p.1
     go true e ih h = (h.0, ih h.1)
     go false e ih h = absurd (true≢false (sym e))
 
--- one of these facts is told alike
+-- one of these facts holds in both or in neither
 kept_alike : (n : Fact) (k : List Fact) (l : Asked) (a b : Lookahead) → has_fact n k ≡ true → Agree (kept_looks k l) a b → has_fact n (facts_for l a) ≡ has_fact n (facts_for l b)
 kept_alike n k [] a b e h = refl
 kept_alike n k (p ∷ l) a b e h = go (has_fact p.1 k) refl h (kept_alike n k l a b e)
@@ -286,7 +286,7 @@ asked_agree k f (x ∷ l) a b e h = go (or_split (same_terminal f x) (mem f l) e
     go (inl q) ih = subst (λ z. Agree (kept_looks k (asked z)) a b) (sym (same_terminal_eq f x q)) (agree_left (kept_looks k (asked x)) _ a b h)
     go (inr q) ih = ih q (agree_right (kept_looks k (asked x)) _ a b h)
 
--- a token with this terminal tells these facts alone
+-- a token with this terminal has these facts alone
 abbrev pub tells_all : List Fact → Terminal → Bool
 tells_all k f = all_kept k (asked f)
 
@@ -303,7 +303,7 @@ token_lookahead k l f x y ra rb e A = go (true_or_false (tells_all k f)) (asked_
 abbrev pub others : Terminal → List Terminal → List Terminal
 others f l = those (λ x. no (same_terminal x f)) l
 
--- ---- where a longer mark is seen in the source, a mark of one character tells nothing there, nor in the print
+-- ---- where a longer mark is seen in the source, a mark of one character has no facts there, nor in the print
 abbrev pub longer : Terminal → Bool
 longer (Punctuation (x ∷ y ∷ m)) = true
 longer _ = false
@@ -312,7 +312,7 @@ abbrev pub facts_of : Asked → List Fact
 facts_of [] = []
 facts_of (p ∷ l) = p.1 ∷ facts_of l
 
--- what is told alike where this terminal is seen
+-- the facts that source and print share where this terminal is seen
 abbrev pub longer_told : Bool → Text → Terminal → List Fact
 longer_told b (c ∷ []) f = pick (and b (and (longer f) (and (no (nat_eq c 58)) (all_deaf c (asked (Punctuation (c ∷ []))))))) (facts_of (asked (Punctuation (c ∷ [])))) []
 longer_told b _ f = []
@@ -324,7 +324,7 @@ long_facts c (Punctuation []) g e q = refl
 long_facts c (Punctuation (x ∷ [])) g e q = absurd (true≢false (sym e))
 long_facts c _ g e q = refl
 
--- what a character asks isn't met by what makes a longer mark of it
+-- the condition of a character fails of what makes a longer mark of it
 longer_still : (c : ℕ) (g : Lookahead) → all_deaf c (asked (Punctuation (c ∷ []))) ≡ true → longer (join c g.terminal) ≡ true → facts_for (asked (Punctuation (c ∷ []))) g ≡ []
 longer_still c g w e = at g.terminal refl
   where
@@ -381,7 +381,7 @@ longer_agree b (x ∷ []) ts r f h A = go (and b (and (longer (lookahead ts).ter
     go false e = subst (λ v. Agree (each_ahead (pick v (facts_of (asked (Punctuation (c ∷ [])))) [])) (lookahead ts) (punctuation_lookahead c false f)) (sym e) tt
 longer_agree b (x ∷ y ∷ l) ts r f h A = tt
 
--- these terminals before this one, each with what is told alike
+-- these terminals before this one, each with the facts that source and print share
 abbrev pub told_moves : (Terminal → List Fact) → List Terminal → Terminal → List Move
 told_moves t [] x = []
 told_moves t (f ∷ l) x = move f x (t f) ∷ told_moves t l x
@@ -394,7 +394,7 @@ told_in t f x (y ∷ l) e = go (or_split (same_terminal f y) (mem f l) e) (told_
     go (inl q) ih = subst (λ z. mem2 (move f x (t f)) (move z x (t z) ∷ told_moves t l x) ≡ true) (same_terminal_eq f y q) (mem2_here (move f x (t f)) (told_moves t l x))
     go (inr q) ih = or_right (same_move (move f x (t f)) (move y x (t y))) _ (ih q)
 
--- true: what follows the mark may be asked of its lookahead
+-- true: the lookahead of the mark may be tested for what follows it
 abbrev pub mark_summary : Bool → Text → List Look → Summary
 mark_summary b cs A = let s = or (quiet_mark cs) (and b (told_mark cs)) in record {
   stays = pick s (mark_terminal cs ∷ []) [];
@@ -455,7 +455,7 @@ pub marked : (b : Bool) (cs : Text) (A : List Look) (xs : List (ℕ × Span)) (t
 marked b cs A xs ts r r' ra rb e d B =
     subst (λ z. HasLookaheads (mark_summary b z A) (lookahead ts) (lookahead (spell xs r')) ra rb) e (marks_lookahead b A xs ts r r' ra rb d (subst (λ z. Agree (pick b (ahead_looks (last_asked z)) []) (lookahead r) (lookahead r')) (sym e) B))
 
--- of a form that begins with this mark, and in which what follows the mark stands
+-- of a form that begins with this mark and includes what follows it
 abbrev pub inner_summary : Bool → Text → List Look → Summary
 inner_summary b cs A = record { stays = (mark_summary b cs A).stays; moves = (mark_summary b cs A).moves; nullable = false; gone = []; ends = A; halts = []; shuns = [] }
 

@@ -1,4 +1,4 @@
--- What is computed is what the grammar says.
+-- The computed reading agrees with the grammar.
 use Rattle.std.proofs.Common.{◌≡◌, ℕ, zero, suc, Bool, true, false, Some, None, refl, sym, ap, ap₂, ◌∙◌, subst, true≢false, ◌⊎◌, inl, inr}
 use Rattle.std.specs.Prelude.{List, [], ◌∷◌, ◌↔◌}
 use Rattle.std.proofs.lemmas.Bool.{eq-eqb}
@@ -89,7 +89,7 @@ holds_value (has_no k) s = ap no (has_value k s)
 holds_value one_where s = one_where_value s
 
 -- ---- what a form is computed to read, it reads
--- some tree is read, and this is what is kept of it
+-- some tree is read, and this is its value
 abbrev pub Told : Grammar → Stream → TreeAndRest → Type 0
 Told g ts x = (t : Syntax) × DerivesPrefix table g t ts x.1 × (value_of t ≡ x.0)
 
@@ -104,7 +104,7 @@ comma_is m r s (x ∷ []) q e h =
     (h.0, h.1 ∙ ap₂ (λ n p. punct n h.0 p r) a (sym b))
 comma_is m r s (x ∷ y ∷ l) q e h = absurd (cc e)
 
--- a comma is seen where one stands
+-- a comma is seen where there is one
 comma_seen : (j : Bool) (f : Terminal) → starts_mark comma (char_terminal 44 j f) ≡ true
 comma_seen false f = refl
 comma_seen true (Punctuation l) = refl
@@ -446,7 +446,7 @@ found _ _ ts r w a = elim a [ ]
 pub parse_rule_found : (k : Rule) (ts : Stream) (s : Syntax) (r : Stream) → DerivesPrefix table (rule k) s ts r → parse_rule k ts ≡ Some (value_of s, r)
 parse_rule_found k ts s r a = found (rule k) s ts r refl a
 
--- exactly what is kept of a reading
+-- exactly the value of a reading
 pub means : (k : Rule) (ts : Stream) (s : Syntax) (r : Stream) → (parse_rule k ts ≡ Some (s, r)) ↔ ((t : Syntax) × DerivesPrefix table (rule k) t ts r × (value_of t ≡ s))
 means k ts s r = (λ e. parse_rule_told k ts (s, r) e, λ (t, a, f). parse_rule_found k ts t r a ∙ ap (λ z. Some (z, r)) f)
 
@@ -454,7 +454,7 @@ means k ts s r = (λ e. parse_rule_told k ts (s, r) e, λ (t, a, f). parse_rule_
 pub refused : (k : Rule) (ts : Stream) → parse_rule k ts ≡ None → (s : Syntax) (r : Stream) → DerivesPrefix table (rule k) s ts r → ⊥
 refused k ts e s r a = absurd (cc (sym e ∙ parse_rule_found k ts s r a))
 
--- ---- what is left of a visible stream is visible
+-- ---- the rest of a visible stream is visible
 pub rest_seen : (g : Grammar) (t : Syntax) (ts r : Stream) → DerivesPrefix table g t ts r → visible ts ≡ true → visible r ≡ true
 rest_seen g t ts r a v = (read_seen table g t ts r a v).1
 

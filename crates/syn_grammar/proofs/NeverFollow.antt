@@ -1,4 +1,4 @@
--- Conditions that what stands behind a form never meets.
+-- Conditions that never hold of what follows a form.
 use Rattle.std.proofs.Common.{◌≡◌, Bool, true, false, List, [], ◌∷◌, refl, sym, true≢false, subst, ◌⊎◌, inl, inr}
 use Rattle.syn_grammar.specs.Tokens.{Stream, Look, Lookahead, lookahead, pick}
 use Rattle.syn_grammar.specs.Rules.{Rule}
@@ -55,7 +55,7 @@ module _ (said : Rule → Start) where
       go (inl q) ih = off_common_left (said l).never_follow (one_never_follow (l' ∷ ks)) a (subst (λ z. Off (said z).never_follow a) (same_rule_eq k l q) h)
       go (inr q) ih = off_common_right (said l).never_follow (one_never_follow (l' ∷ ks)) a (ih q h)
 
-  -- what is said of the rules holds of their forms
+  -- what holds of the rules holds of their forms
   abbrev pub IsOff : (Rule → Grammar) → Type 0
   IsOff table = (k : Rule) → sub_looks (said k).never_follow (never_follow [] (table k)) ≡ true
 

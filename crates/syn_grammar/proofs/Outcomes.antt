@@ -1,4 +1,4 @@
--- From what parsers say among themselves to what callers are promised.
+-- From the contracts between parsers to the contracts of public calls.
 use Rattle.std.proofs.Common.{◌≡◌, Bool, true, false, Some, None, refl, sym, ap, ◌∙◌, subst}
 use Rattle.std.specs.Prelude.{Result, Ok, Err}
 use Rattle.syn_grammar.specs.Tokens.{Stream, end, ◌⧺◌, visible, Look, stands}
@@ -24,7 +24,7 @@ computes_none g ts u = go (parse_form g ts) refl
     go None e = refl
     go (Some p) e = let t = told g ts p e in absurd (u t.0 p.1 t.1)
 
--- every form whose unions are apart means what is computed of it
+-- the computed reading of every form whose unions are apart agrees with its derivations
 pub meaning_of : (g : Grammar) → sound table start_of g ≡ true → Meaning g
 meaning_of g w ts v = (
   λ s r. (λ e. told g ts (s, r) e, λ (t, a, f). found g t ts r w a ∙ ap (λ z. Some (z, r)) f),
@@ -79,14 +79,14 @@ abbrev rest_or : Out → Stream → Stream
 rest_or (Some p) r = p.1
 rest_or None r = r
 
--- equal answers are equal in both parts
+-- equal results are equal in both parts
 both_same : (a c : Syntax) (b d : Stream) → ◌≡◌ {A = Out} (Some (a, b)) (Some (c, d)) → (a ≡ c) × (b ≡ d)
 both_same a c b d e = (ap (λ o. tree_or o a) e, ap (λ o. rest_or o b) e)
 
 none_some : {C : Type 0} {x : Syntax × Stream} → ◌≡◌ {A = Out} None (Some x) → C
 none_some e = absurd (cc e)
 
--- an optional part means what is computed of it, where the part does
+-- the computed reading of an optional part agrees with its derivations, if that of the part does
 pub meaning_of_optional : (c : Look) (g : Grammar) → Meaning g → Meaning (when c then g else empty)
 meaning_of_optional c g m ts v = (λ s r. (told_of s r, found_of s r), (none_of, of_none))
   where
@@ -133,7 +133,7 @@ meaning_of_optional c g m ts v = (λ s r. (told_of s r, found_of s r), (none_of,
         go None e = refl
         go (Some p) e = let t = told_of p.0 p.1 e in absurd (u t.0 p.1 t.1)
 
--- OF A WHOLE STREAM: the parser answered, and nothing is left
+-- OF A WHOLE STREAM: the parser returned a value, and nothing is left
 pub whole_ok : (g : Grammar) → Meaning g → (ts : Stream) (s : Syntax) → visible ts ≡ true → parse_form g ts ≡ Some (s, end) → DerivesWholeValue g s ts
 whole_ok g m ts s v e = ((m ts v).0 s end).0 e
 

@@ -10,7 +10,7 @@ use Rattle.syn_grammar.proofs.Again.{move, stays_off, off_sound, those2, mem2_th
 use Rattle.syn_grammar.proofs.Summaries.{Summary, either_summary, seam, filled, HasLookaheads, alike, altered, passed, vanished, Ready, ready, either_right, prints, printed_mem}
 use Rattle.syn_grammar.proofs.Marks.{mark_terminal, and_off_right, mark_summary}
 
--- what a group tells of its content is the same in the print
+-- the facts that a group has of its content are the same in the print
 abbrev pub steady : List Look → Summary → Bool
 steady A p = and (every2 (agree A) p.moves) (and (every (clear A) p.gone) (clear A Ended))
 
@@ -29,7 +29,7 @@ filled_off a (x ∷ l) e = refl
 abbrev none_ended : List Terminal → Bool
 none_ended l = every (λ f. no (is_ended f)) l
 
--- of the content of an invisible group: what is read of it and what is printed are both nothing, or neither is
+-- for the content of an invisible group: its tokens and its print are both empty, or neither is
 abbrev pub lasting : Delimiter → Summary → Bool
 lasting None p = and (no (filled p.gone)) (and (none_ended p.stays) (and (none_ended (firsts p.moves)) (none_ended (seconds p.moves))))
 lasting d p = true
@@ -90,7 +90,7 @@ inside_lookahead d p a b ra rb h = go (and (steady (ahead_looks (asked_inside d)
         alike m (ap₂ (λ v l. lookahead_with (Delimited d v) l) e (fact_agrees (asked_inside d) a b s))
     go false w = altered [] (mem2_cross (Delimited d (holds_nothing d a.terminal)) (Delimited d (holds_nothing d b.terminal)) (group_terminals d) (group_terminals d) (group_terminal d a.terminal) (group_terminal d b.terminal)) tt
 
--- ROWS: what stands behind a member is a comma or a `>`
+-- ROWS: a comma or a `>` follows a member
 abbrev pub edges : List Terminal
 edges = mark_first_set comma ++ mark_first_set greater
 
@@ -140,7 +140,7 @@ wild_lookahead p sp b ra rb w (altered k e h) =
 wild_lookahead p sp b ra rb w (passed v e f) = absurd (true≢false (sym v ∙ no_true p.nullable (and_left (no p.nullable) _ w)))
 wild_lookahead p sp b ra rb w (vanished v f) = absurd (true≢false (sym (filled_off (Word w_underscore) p.gone v) ∙ no_true (filled p.gone) (and_right (no p.nullable) _ w)))
 
--- the colon behind it, read or supplied
+-- the colon after it, read or supplied
 abbrev pub colon_summary : Summary
 colon_summary = either_summary (mark_summary false colon []) (record { stays = []; moves = move Ended (mark_terminal colon) [] ∷ []; nullable = false; gone = []; ends = []; halts = []; shuns = [] })
 
@@ -163,7 +163,7 @@ named_lookahead n off p t a b ma mb ra rb w v (altered k e h) =
 named_lookahead n off p t a b ma mb ra rb w v (passed z e f) = absurd (true≢false (sym z ∙ no_true p.nullable (and_left (no p.nullable) _ (and_left (and (no p.nullable) (no (filled p.gone))) _ w))))
 named_lookahead n off p t a b ma mb ra rb w v (vanished z f) = absurd (true≢false (sym (filled_off a.terminal p.gone z) ∙ no_true (filled p.gone) (and_right (no p.nullable) _ (and_left (and (no p.nullable) (no (filled p.gone))) _ w))))
 
--- a condition on facts stands in it
+-- it contains a condition on facts
 abbrev pub mentions : Look → Bool
 mentions (ahead n) = true
 mentions (a or_else b) = or (mentions a) (mentions b)
@@ -175,14 +175,14 @@ abbrev pub some_mention : List Look → Bool
 some_mention [] = false
 some_mention (c ∷ A) = or (mentions c) (some_mention A)
 
--- somebody asks for the facts of the lookahead behind it; a is true where somebody does before it
+-- a form tests the facts of the lookahead after it; a is true where one tests those before it
 abbrev pub heeds : Bool → Summary → Bool
 heeds a p = or (and a p.nullable) (or (some_mention p.ends) (or (some_mention p.halts) (some_mention p.shuns)))
 
 abbrev pub listens : Delimiter → Bool
 listens d = no (silent (asked_inside d))
 
--- by whether somebody asks for the facts of a form's lookahead; those rules of which somebody does
+-- by whether the facts of a form's lookahead are tested; the rules for which they are
 -- GENERICS BEFORE A TYPE: any lookahead of the two may become any
 abbrev pub lead_summary : List Terminal → Summary → Summary
 lead_summary l q = record { stays = []; moves = cross (mark_first_set less ++ l) (Punctuation less ∷ prints q); nullable = false; gone = []; ends = q.ends; halts = q.halts; shuns = q.shuns }
@@ -205,7 +205,7 @@ sure_first c p a b ra rb w (altered k e h) = inl (on_of c b (every_at (must c) b
 sure_first c p a b ra rb w (passed v e f) = inr (solid_off p v, f)
 sure_first c p a b ra rb w (vanished v f) = inr (and_off_right (no p.nullable) _ (ap no (filled_off a.terminal p.gone v)), f)
 
--- what is printed has one of these terminals, or those of what stands behind it
+-- the print begins with one of these terminals, or with those of what follows it
 pub printed_behind : (q : Summary) (A : List Terminal) (a b ra rb : Lookahead) → mem rb.terminal A ≡ true → HasLookaheads q a b ra rb → mem b.terminal (prints q ++ A) ≡ true
 printed_behind q A a b ra rb m (alike e f) = mem_left b.terminal (prints q) A (printed_mem q a b ra rb (e, f))
 printed_behind q A a b ra rb m (altered k e h) = mem_left b.terminal (prints q) A (mem_right b.terminal q.stays _ (mem_seconds (move a.terminal b.terminal k) q.moves e))

@@ -1,4 +1,4 @@
--- What a value holds of a tree without spans is what it holds of the tree, without spans.
+-- The value of a tree without spans is the value of the tree, without spans.
 use Rattle.std.proofs.Common.{◌≡◌, Bool, true, false, refl, sym, ap, ap₂, ◌∙◌}
 use Rattle.syn_grammar.specs.Tokens.{Paren, Bracket, call_site}
 use Rattle.syn_grammar.specs.Shape.{Path, Binary, Assign, Cast, Macro, Shape, expr, bracketed, dotted, fields, choice, chain, leading, labelled, attributed, listed, lone, said, said_macro, a_local, an_item, untagged, parameters, based, single}

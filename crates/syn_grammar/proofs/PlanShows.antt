@@ -1,4 +1,4 @@
--- What is shown of what a plan reads is what is shown of its pieces.
+-- The shown tokens of a plan's value are those of its pieces.
 use Rattle.std.proofs.Common.{◌≡◌, ℕ, zero, suc, Bool, true, false, List, [], ◌∷◌, Option, Some, None, refl, sym, ap, ◌∙◌, subst, true≢false}
 use Rattle.syn_grammar.specs.Tokens.{Stream, end, ◌⧺◌, or, pick}
 use Rattle.syn_grammar.specs.Rules.{Rule}
@@ -15,9 +15,9 @@ use Rattle.syn_grammar.proofs.Shapes.{show_sum, sum_shape}
 use Rattle.syn_grammar.proofs.Known.{Known, clash, noted, some_is}
 use Rattle.syn_grammar.proofs.Threads.{Ends, Fits, Frame, Provided, State, Thread, Tried, TriedAll, alive, and_behind, and_next, back, beside, bound, calm, chosen, contrary, dead, eat, eat_list, eat_thread, eaten, finish, frames_is, fuel, holding, in_case, in_left, in_node, in_right, in_shape, in_such, in_vanishing, listed, matches, of_kept, of_kind, only_is, paired, passed, passed_state, reading, state_is, step, verdict, with_generics, with_state}
 
--- ---- WHAT IS SHOWN of what a plan reads is what is shown of its pieces, one after another
+-- ---- THE SHOWN TOKENS of a plan's value are those of its pieces, one after another
 
--- what is shown of the parts that were read, before this
+-- the shown tokens of the parts that were read, before this
 abbrev wrote : List Frame → Stream → Stream
 wrote [] x = x
 wrote (beside t ∷ k) x = wrote k (show t ⧺ x)

@@ -1,4 +1,4 @@
--- How far a plan goes, for who reads by one: what looks answered and what was read.
+-- The steps of a reader that follows a plan: the results of looks and what was read.
 use Rattle.std.proofs.Common.{◌≡◌, Bool, true, false, List, [], ◌∷◌, Some, None, refl, sym, ap, ◌∙◌}
 use Rattle.syn_grammar.specs.Words.{w_pub, w_fn, semicolon}
 use Rattle.syn_grammar.specs.Tokens.{Stream, pick, Look, at_word}
@@ -14,7 +14,7 @@ use Rattle.syn_grammar.proofs.Takes.{sees_answers}
 use Rattle.syn_grammar.proofs.Known.{excludes, excludes_is, implies, implies_is, not_true}
 use Rattle.syn_grammar.proofs.ItemPlan.{item_plan_is}
 
--- what happened on the way: a look or a test answered so; a mark was met; or this was read, and this is left
+-- one step: the result of a look or a test; a mark; or this was read, and this is left
 pub data Event : Type 0 where
   went : Bool → Event
   marked : Event
@@ -86,7 +86,7 @@ module _ (k : Rule) (ts : Stream) where
   refused_there (ends s) m h = elim h [ ]
   refused_there done m h = elim h [ ]
 
--- Where the one look holds, the other doesn't: who knows a word needn't ask for those that stand before it in a plan.
+-- Where the one look holds, the other doesn't: where a word is known, the words before it in a plan need no test.
 pub seen_apart : (c d : Look) (m : Stream) → excludes c d ≡ true → sees c m ≡ true → sees d m ≡ false
 seen_apart c d m e h = not_true (sees d m) (λ i. excludes_is c d (lookahead_at m) e (sym (sees_answers c m) ∙ h) (sym (sees_answers d m) ∙ i))
 
@@ -94,13 +94,13 @@ seen_apart c d m e h = not_true (sees d m) (λ i. excludes_is c d (lookahead_at 
 pub seen_along : (c d : Look) (m : Stream) → implies c d ≡ true → sees c m ≡ true → sees d m ≡ true
 seen_along c d m e h = sees_answers d m ∙ implies_is c d (lookahead_at m) e (sym (sees_answers c m) ∙ h)
 
--- ---- AN EXAMPLE: a public function whose parts were read is an item of this value; with `;` in place of its body it is kept as tokens
+-- ---- AN EXAMPLE: a public function whose parts were read is an item of this value; with `;` in place of its body it is verbatim
 module _ (ts m n r z : Stream) (a v s b : Syntax) (outer : parse_rule attributes ts ≡ Some (a, m)) (at_pub : sees (at_word w_pub) m ≡ true) (vis : parse_rule visibility m ≡ Some (v, n))
     (at_fn : sees (at_word w_fn) n ≡ true) (sig : parse_rule signature n ≡ Some (s, r)) where
   abbrev no : (c : Look) → excludes (at_word w_fn) c ≡ true → sees c n ≡ false
   no c e = seen_apart (at_word w_fn) c n e at_fn
 
-  -- behind the signature: eleven looks are asked before `fn`'s, and none of them holds at `fn`
+  -- after the signature: eleven looks are tested before `fn`'s, and none of them holds at `fn`
   abbrev so_far : List Event
   so_far =
       took a m ∷ went true ∷ took v n ∷ went false ∷ went false ∷ went false ∷ went false ∷ went false ∷ went false ∷ went false ∷ went false ∷ went false ∷ went false ∷ went true ∷ took s r ∷ []

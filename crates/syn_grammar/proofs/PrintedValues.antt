@@ -1,4 +1,4 @@
--- What a value doesn't hold isn't printed: its print is that of the whole tree.
+-- Parts of a tree that the value doesn't hold aren't printed: the value prints as the whole tree does.
 use Rattle.std.proofs.Common.{◌≡◌, Bool, true, false, refl, sym, ap, ap₂, ◌∙◌}
 use Rattle.syn_grammar.specs.Tokens.{Span, Stream, end, punct, ◌⧺◌, or, and, pick, at_generics, stands}
 use Rattle.syn_grammar.specs.Grammar.{Syntax, Nothing, Both, Left, Right, Node, Vanishing, Group, Case, Such, Unshown, Captured, Last, More, Order, bare, show, spell, behind, sort, renew, print, Shaped, Impl, no_generics, among, led_part, led}

@@ -1,4 +1,4 @@
--- The laws, from those of every table that passes the tests.
+-- The laws of the table, from the laws of every table that passes the tests.
 use Rattle.std.proofs.Common.{◌≡◌, true, false, refl, sym, ap, ◌∙◌, subst}
 use Rattle.syn_grammar.specs.Tokens.{Stream, end, ◌⧺◌, plain}
 use Rattle.syn_grammar.specs.Grammar.{DerivesPrefix, rule, print, renew, normal, plain_syntax}

@@ -1,4 +1,4 @@
--- What is printed is read again, for every table whose summaries hold and whose forms are `fine`.
+-- Every print is read again, for every table whose summaries hold and whose forms are `fine`.
 use Rattle.std.proofs.Common.{◌≡◌, ℕ, Bool, true, false, List, [], ◌∷◌, ◌++◌, refl, sym, ap, ◌∙◌, ap₂, subst, true≢false, ◌⊎◌, inl, inr}
 use Rattle.syn_grammar.specs.Words.{colon, comma, less, greater, lifetime_mark}
 use Rattle.syn_grammar.specs.Tokens.{Span, Stream, end, leaf, punct, group, ◌⧺◌, or, and, no, pick, Terminal, Ended, Punctuation, Lookahead, lookahead_with, same_terminal, mem, Look, ended, at_mark, ◌or_else◌, answers, starts_mark, is_name, is_ended, asked, leaf_terminal, punctuation_lookahead, lookahead, stands, at_generics, at_parameter, Before_parameter, call_site}
@@ -106,7 +106,7 @@ module _ (said : Bool → Rule → Summary) (heard : Rule → Bool) (starts : Ru
     not_ended_choice true g h a b ra rb w f = not_ended (summary false g) (and_left (in_row (summary false g)) _ w) a b ra rb f
     not_ended_choice false g h a b ra rb w f = not_ended (summary false h) (and_right (in_row (summary false g)) _ w) a b ra rb f
 
-    -- one of a row, wherever it stands
+    -- one of a row, at any place
     abbrev pub Member : Grammar → Grammar → Bool → Syntax → Type 0
     Member g h k s = (r' : Stream) → mem (lookahead r').terminal edges ≡ true → DerivesPrefix table (choose k g h) s (show s ⧺ r') r' × (stands at_row_end (show s ⧺ r') ≡ false)
 
@@ -136,7 +136,7 @@ module _ (said : Bool → Rule → Summary) (heard : Rule → Bool) (starts : Ru
         (p.1, m, p.0, show t ⧺ r', (false, refl), row_again g h t r' a.1 e)
     row_again g h _ r' a e = elim a [ ]
 
-    -- PRINTED PARAMETERS: each begins one, so the printed list stands where generics are read
+    -- PRINTED PARAMETERS: each begins one, so generics are read where the printed list is
     abbrev Sure : Syntax → Type 0
     Sure s = (r' : Stream) → mem (lookahead r').terminal edges ≡ true → stands at_parameter (show s ⧺ r') ≡ true
 
@@ -204,7 +204,7 @@ module _ (said : Bool → Rule → Summary) (heard : Rule → Bool) (starts : Ru
     or_off_left true b e = absurd (true≢false e)
     or_off_left false b e = refl
 
-    -- `< >` stands where generics would be read, and nothing only elsewhere
+    -- `< >` is printed where generics would be read, and nothing only elsewhere
     led_empty : (x y h : Grammar) (l : List Terminal) (s : Syntax) (u r' : Stream) → DerivesPrefix table h s u r' → lookahead u ≡ lookahead (show s) → mem (lookahead u).terminal l ≡ true → (v : Bool) → led s ≡ v →
         DerivesPrefix table (generics_before x y h) (Impl (pick v no_generics (Right Nothing)) s) (show (pick v no_generics (Right Nothing)) ⧺ u) r' × (mem (lookahead (show (pick v no_generics (Right Nothing)) ⧺ u)).terminal (Punctuation less ∷ l) ≡ true)
     led_empty x y h l s u r' a e f true q = ((u, (refl, (punct 62 false call_site u, refl, (false, refl), punct 62 false call_site u, (refl, refl), refl, (false, refl))), a), mem_here (Punctuation less) l)

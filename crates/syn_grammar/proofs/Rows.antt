@@ -1,4 +1,4 @@
--- A row from the left, for a loop that reads it.
+-- A row of members from the left, for a loop that reads it.
 use Rattle.std.proofs.Common.{◌≡◌, true, false, Some, None, ap, ◌∙◌}
 use Rattle.syn_grammar.specs.Words.{comma}
 use Rattle.syn_grammar.specs.Tokens.{Stream}

@@ -1,4 +1,4 @@
--- What a rule is computed to read is what its form is.
+-- The computed reading of a rule is that of its form.
 use Rattle.std.proofs.Common.{◌≡◌, ℕ, zero, suc, ◌+◌, ◌*◌, ◌<◌, ◌≤◌, Bool, true, false, Option, Some, None, refl, sym, ap, ◌∙◌, true≢false, ◌⊎◌, inl, inr, arith}
 use Rattle.std.specs.Prelude.{List, [], ◌∷◌, nat_lt}
 use Rattle.std.proofs.lemmas.Bool.{ltb-true, eq-eqb}

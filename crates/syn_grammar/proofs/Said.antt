@@ -13,7 +13,7 @@ use Rattle.syn_grammar.proofs.Again.{move, clear}
 use Rattle.syn_grammar.proofs.Summaries.{Summary}
 use Rattle.syn_grammar.proofs.Reprint.{IsSummary}
 
--- what each rule begins with, whether it may read nothing, and what never stands behind it
+-- what each rule begins with, whether it may read nothing, and what never follows it
 abbrev pub start_of : Rule → Start
 start_of attributes = record { first_set = Punctuation pound ∷ []; nullable = true; never_follow = at_pound ∷ [] }
 start_of inner_attributes = record { first_set = Punctuation pound ∷ []; nullable = true; never_follow = at_inner_attribute ∷ [] }
@@ -501,7 +501,7 @@ closed_of item = true
 closed_of items = false
 closed_of file = false
 
--- each look keeps its answer where what follows it is cut off
+-- each look gives the same result where what follows it is cut off
 abbrev pub cut_of : Rule → Bool
 cut_of attributes = true
 cut_of inner_attributes = true
@@ -989,7 +989,7 @@ spaced_of item = false
 spaced_of items = false
 spaced_of file = false
 
--- somebody asks for the facts of its lookahead
+-- the facts of its lookahead are tested
 abbrev pub heard_of : Rule → Bool
 heard_of attributes = true
 heard_of inner_attributes = false
@@ -2935,7 +2935,7 @@ never_follow_hold item = refl
 never_follow_hold items = refl
 never_follow_hold file = refl
 
--- nothing is asked behind it
+-- it tests nothing of what follows it
 pub closed_hold : (k : Rule) → closed_of k ≡ true → closes closed_of (table k) ≡ true
 closed_hold attributes e = absurd (true≢false (sym e))
 closed_hold inner_attributes e = absurd (true≢false (sym e))

@@ -1,4 +1,4 @@
--- Trees and streams are the same up to spans exactly where they are equal with every span 0 to 0.
+-- Trees and streams pass the tests of sameness exactly where they are equal with every span 0 to 0.
 use Rattle.std.proofs.Common.{◌≡◌, ℕ, Bool, true, false, ◌&&◌, List, [], ◌∷◌, refl, sym, ap, ap₂, ◌∙◌, true≢false}
 use Rattle.std.specs.Prelude.{◌↔◌, nat_eq}
 use Rattle.std.specs.Str.{bytes_eq}
@@ -225,7 +225,7 @@ same_syntax_trans s t u h k = tree_from s u (tree_to s t h ∙ tree_to t u k)
 
 -- LISTS
 
--- A list whose pairs are compared in turn is compared by its pairs alone, and then by what stands behind them. Its view takes the pairs and that.
+-- A list whose pairs are compared in turn is compared by its pairs, and then by the last element. Its view takes both.
 module _ {X O : Type 0} (view : List X → O → Syntax) (none : O) (one : X → X → Bool)
     (each : (x y : X) (l m : List X) (o q : O) → same_syntax (view (x ∷ l) o) (view (y ∷ m) q) ≡ and (one x y) (same_syntax (view l o) (view m q)))
     (shorter : (y : X) (m : List X) (o q : O) → same_syntax (view [] o) (view (y ∷ m) q) ≡ false)

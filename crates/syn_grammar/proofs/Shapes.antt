@@ -1,4 +1,4 @@
--- What is summed over a tree's parts in their order doesn't see how values are built.
+-- A sum over a tree's parts in their order doesn't depend on how values are built.
 use Rattle.std.proofs.Common.{◌≡◌, ℕ, Bool, true, false, List, refl, sym, ap, ap₂, ◌∙◌}
 use Rattle.syn_grammar.specs.Tokens.{Span, Stream, end, ◌⧺◌, and, pick, Paren, Bracket}
 use Rattle.syn_grammar.specs.Rules.{Rule, kept_item}
@@ -214,7 +214,7 @@ module _ {M : Type 0} {op : M → M → M} {m : Syntax → M} (law : IsSum M op 
   untag_sum (Right s) = law.shaped untagged s ∙ sym (law.right s)
   untag_sum s = law.shaped untagged s
 
-  -- lists with something behind them
+  -- lists with something after them
   no_members_sum : m no_members ≡ m Nothing
   no_members_sum = law.node (Left Nothing) ∙ law.left Nothing
 
@@ -381,7 +381,7 @@ ends_sum = record {
         last false true = refl
         last false false = refl
 
--- ---- what is printed of a value is built as the value
+-- ---- the print of a value is built like the value
 renew_core : (s : Syntax) → renew (core s) ≡ core (renew s)
 renew_core (Node s) = renew_core s
 renew_core (Left s) = renew_core s

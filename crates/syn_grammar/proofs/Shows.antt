@@ -1,4 +1,4 @@
--- What is shown of a value is read again as the same value.
+-- The shown tokens of a value are read again as the same value.
 use Rattle.std.proofs.Common.{◌≡◌, Bool, true, false, List, [], ◌∷◌, Some, None, refl, sym, ap, ◌∙◌, subst, true≢false, ◌⊎◌, inl, inr}
 use Rattle.syn_grammar.specs.Words.{Text}
 use Rattle.syn_grammar.specs.Tokens.{Stream, end, ◌⧺◌, and, or, no, same_text, one_of_texts, mem, Ended, Look, at_mark, Lookahead, lookahead}
@@ -26,7 +26,7 @@ use Rattle.syn_grammar.proofs.Alone.{of_every_rule, implies, by_implied, like_va
 use Rattle.syn_grammar.proofs.Full.{full_table, full_tree, full_read, full_back, show_full, shown_well}
 use Rattle.syn_grammar.proofs.Cut.{cut, shown_unjoined}
 
--- ---- what is said of the rules holds of their full forms
+-- ---- what holds of the rules holds of their full forms
 abbrev starts_well : Rule → Bool
 starts_well k = and (subset (first_set start_of (full_table k)) (start_of k).first_set) (implies (nullable start_of (full_table k)) (start_of k).nullable)
 
@@ -57,7 +57,7 @@ full_ends k = of_every_rule (λ k. clear (shown_summary_of false k).shuns Ended)
 shown_hold : (k : Rule) → reads_shown k ≡ true → shown_well (table k) ≡ true
 shown_hold k = by_implied (reads_shown k) _ (of_every_rule (λ k. implies (reads_shown k) (shown_well (table k))) refl refl k)
 
--- ---- before a lookahead that changes nothing, what is shown is derived, as a tree of the same value
+-- ---- before a lookahead that changes nothing, the shown tokens are derived, as a tree of the same value
 shown_again : (k : Rule) (s : Syntax) (ts r r' : Stream) → reads_shown k ≡ true → DerivesPrefix table (rule k) s ts r → Ready (shown_summary_of false k) (lookahead r) (lookahead r') →
     (u : Syntax) × DerivesPrefix table (rule k) u (show (value_of s) ⧺ r') r' × (value_of u ≡ value_of s)
 shown_again k s ts r r' w d R =
@@ -76,7 +76,7 @@ shown_alone k ts s r w e R =
 pub show_is_read : ShowIsRead
 show_is_read k w ts s e = shown_alone k ts s end w e (at_end (shown_summary_of false k) (full_ends k))
 
--- ---- before the end, whatever stood behind
+-- ---- before the end, whatever followed
 abbrev no_looks : List Look → Bool
 no_looks [] = true
 no_looks (c ∷ A) = false
@@ -85,7 +85,7 @@ none_agree : (A : List Look) (a b : Lookahead) → no_looks A ≡ true → Agree
 none_agree [] a b e = tt
 none_agree (c ∷ A) a b e = absurd (true≢false (sym e))
 
--- a form with this summary asks nothing of what follows that the end might answer otherwise
+-- a form with this summary tests nothing of what follows that might differ at the end
 abbrev cut_well : Summary → Bool
 cut_well p = and (no_looks p.ends) (and (clear p.halts Ended) (clear p.shuns Ended))
 
@@ -96,7 +96,7 @@ ready_at_end p a w =
     (stay_off_of p.halts a (lookahead end) (clear_sound p.halts (lookahead end) (and_left (clear p.halts Ended) _ v)))
     (clear_sound p.shuns (lookahead end) (and_right (clear p.halts Ended) _ v))
 
--- ---- or: what is shown is read before the same rest, and that rest is cut off
+-- ---- or: the shown tokens are read before the same rest, and that rest is cut off
 none_off : (A : List Look) (a : Lookahead) → no_looks A ≡ true → Off A a
 none_off [] a e = tt
 none_off (c ∷ A) a e = absurd (true≢false (sym e))
@@ -130,7 +130,7 @@ show_stands_alone k w ts s r e = go (or_split (cut_well (shown_summary_of false 
     go (inr v) = shown_cut k ts s r (and_left (reads_shown k) _ (cut_holds k w)) v e
 
 -- ---- and before a mark
--- a form with this summary stands before the end as before this mark
+-- a form with this summary reads the same before the end as before this mark
 abbrev ends_as : Summary → Text → Bool
 ends_as p m = and (known_mark m) (every (λ f. keeps p (move f Ended [])) (mark_first_set m))
 

@@ -1,4 +1,4 @@
--- Spans decide nothing: what is read of one stream is read of every stream that differs in its spans alone.
+-- Spans decide nothing: a form reads the same from every stream that differs in its spans alone.
 use Rattle.std.proofs.Common.{◌≡◌, ℕ, Bool, true, List, [], ◌∷◌, refl, sym, ap, ◌∙◌, ap₂, subst, inl, inr}
 use Rattle.syn_grammar.specs.Tokens.{Span, Delimiter, Leaf, Stream, end, leaf, ident, punct, group, ◌⧺◌, call_site, plain, lookahead_with, punctuation_lookahead, answers, lookahead, facts_for, asked, leaf_terminal, group_lookahead}
 use Rattle.syn_grammar.specs.Rules.{Rule}
@@ -46,7 +46,7 @@ lookahead_like (punct c j sp m) (punct c' j' sp' m') h =
 lookahead_like (group d o c i m) (group d' o' c' i' m') h = ap₂ group_lookahead h.0 (lookahead_like i i' h.1)
 lookahead_like _ _ h = elim h [ ]
 
--- what stands before rests that differ in spans alone
+-- the tokens before rests that differ in spans alone
 like_before : (a b r r' : Stream) → Like (a ⧺ r) (b ⧺ r') → Like r r' → plain a ≡ plain b
 like_before a b r r' h k =
     let e : plain a ⧺ plain r ≡ plain b ⧺ plain r = sym (plain_append a r) ∙ plain_of_like (a ⧺ r) (b ⧺ r') h ∙ plain_append b r' ∙ ap (λ z. plain b ⧺ z) (sym (plain_of_like r r' k)) in

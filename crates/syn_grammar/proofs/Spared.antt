@@ -1,4 +1,4 @@
--- A form that spares a word doesn't read it outside of groups: for every table whose rules do what is said of them.
+-- A form that spares a word doesn't read it outside of groups: for every table whose rules do as stated.
 use Rattle.std.proofs.Common.{◌≡◌, ℕ, Bool, true, false, List, [], ◌∷◌, ◌++◌, refl, sym, ap, ◌∙◌, true≢false, inl, inr}
 use Rattle.std.specs.Prelude.{nat_eq}
 use Rattle.syn_grammar.specs.Words.{Text, keywords, contextual}
@@ -36,14 +36,14 @@ add_add never b c = refl
 add_add once b c = again_add b c
 add_add more b c = ap again (again_add b c) ∙ again_add (again b) c
 
--- how often the word stands there, groups aside, and lifetimes (true); the last says whether a `'` is joined to what stands next
+-- how often the word occurs, groups and lifetimes (true) aside; the last argument says whether a `'` is joined to the next token
 abbrev pub count : Bool → Text → Bool → Stream → Often
 count a x q end = never
 count a x q (leaf y sp m) = pick (and (no q) (is_text x y)) (again (count a x false m)) (count a x false m)
 count a x q (punct c j sp m) = count a x (and a (opens_lifetime c j)) m
 count a x q (group d o c i m) = count a x false m
 
--- tokens in which the word stands so often, whatever stands behind them
+-- tokens in which the word occurs so often, whatever follows them
 abbrev pub Counts : Bool → Text → Often → Stream → Stream → Type 0
 Counts a x n ts r = (c : Stream) × (ts ≡ c ⧺ r) × ((m : Stream) → count a x false (c ⧺ m) ≡ add n (count a x false m))
 

@@ -1,4 +1,4 @@
--- A union is its alternatives side by side.
+-- A union reads what one of its alternatives reads; the alternatives are followed side by side.
 use Rattle.std.proofs.Common.{◌≡◌, List, [], ◌∷◌, ◌++◌, map, Option, Some, None, refl, sym, ap, ◌∙◌}
 use Rattle.syn_grammar.specs.Tokens.{Stream}
 use Rattle.syn_grammar.specs.Rules.{Rule, attributes}
@@ -30,7 +30,7 @@ pub first_first : (a b c : Out) → first (first a b) c ≡ first a (first b c)
 first_first (Some x) b c = refl
 first_first None b c = refl
 
--- a kind of its own, and what is kept as tokens of this rule
+-- a kind of its own, and the verbatim forms of this rule
 abbrev pub kind_thread : Rule → Thread
 kind_thread k = of_kind (reading (table k) (in_case k ∷ in_node ∷ []))
 
@@ -55,7 +55,7 @@ flat_is (g & h) m = onward_alike (rest (parse_form g m)) (recog (flat h)) (λ r.
 flat_is (captured g) m = flat_is g m ∙ sym (rest_caught m (parse_form g m))
 flat_is g m = onward_same (rest (parse_form g m))
 
--- the rule of what is kept as tokens, the beginning, and what the attributes are read as
+-- the rule of the verbatim form, the beginning, and the value of the attributes
 module _ (kk : Rule) (ts : Stream) where
   abbrev pub Kept : Rule → Out
   Kept k = keep kk ts (rest (and_then (parse_rule attributes ts) (parse_rule k)))
@@ -96,7 +96,7 @@ module _ (kk : Rule) (ts : Stream) where
   named_kind k (Some x) p = refl
   named_kind k None p = refl
 
-  -- kinds, and what is kept as tokens behind them
+  -- kinds, and the verbatim forms after them
   pub kinds_start : (ks : List Rule) (ths : List Thread) (q : Out) → parse_rule kk ts ≡ wrap Node (caught ts q) → keep kk ts (rest q) ≡ answer_all kk ts ths ts →
       wrap Node (first_rule parse_rule (ks ++ (kk ∷ [])) ts) ≡ answer_all kk ts (map kind_thread ks ++ ths) ts
   kinds_start [] ths q e h = ap (λ z. wrap Node (named kk z None)) e ∙ named_kept q ∙ h

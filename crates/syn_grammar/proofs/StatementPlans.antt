@@ -1,4 +1,4 @@
--- Statements are read by plans: attributes once, and then by whether an item stands next.
+-- Statements are read by plans: attributes once, and then by whether an item is next.
 use Rattle.std.proofs.Common.{◌≡◌, List, [], ◌∷◌, Bool, true, false, Some, None, refl, ap, ap₂, ◌∙◌}
 use Rattle.syn_grammar.specs.Tokens.{Stream, ended}
 use Rattle.syn_grammar.specs.Rules.{attributes, kept_in_block, kept_item_rest, item_rest, kept_item, statement, statements, statement_rest, crate_macro, crate_macro_item, brace_macro, statement_end}
@@ -18,12 +18,12 @@ use Rattle.syn_grammar.proofs.ItemStatements.{item_statements}
 use Rattle.syn_grammar.proofs.ItemPlan.{item_plan_is}
 use Rattle.syn_grammar.proofs.Threads.{in_left, in_right, in_node, in_shape, reading, of_kind, Thread, first, Fits, fits_is}
 
--- what a plan of an item reads behind its attributes
+-- what a plan of an item reads after its attributes
 item_at : (ts m : Stream) (a : Syntax) → parse_rule attributes ts ≡ Some (a, m) → run_plan item_plan kept_item ts ts ≡ run_plan (item_behind a) kept_item ts m
 unfolding item_plan
 item_at ts m a e = ap (λ o. follow (λ s r. run_plan (item_behind s) kept_item ts r) o) e
 
--- nothing is kept as tokens where no item stands next, or where no attributes are read
+-- nothing is verbatim where no item is next, or where no attributes are read
 in_block_none : (ts : Stream) → parse_rule attributes ts ≡ None → parse_rule kept_in_block ts ≡ None
 in_block_none ts e = parse_rule_is kept_in_block ts ∙ ap (λ o. wrap Node (caught ts (and_then o (λ n. branch (sees at_item n) (parse_rule kept_item_rest n) None)))) e
 

@@ -1,4 +1,4 @@
--- The grammar before and the grammar.
+-- The laws of growth, for the earlier grammar and the grammar.
 use Rattle.std.proofs.Common.{◌≡◌, Bool, true, false, refl, sym, ap, ap₂, ◌∙◌, true≢false}
 use Rattle.std.proofs.lemmas.Bool.{eq-eqb}
 use Rattle.syn_grammar.specs.Tokens.{end, or, and, no, pick}

@@ -1,4 +1,4 @@
--- What is said of each form: what may stand at the front of its source and of its print, and what it asks of what follows.
+-- The summary of each form: the first lookaheads of its source and of its print, and its conditions on what follows.
 use Rattle.std.proofs.Common.{◌≡◌, Bool, true, false, List, [], ◌∷◌, ◌++◌, refl, sym, ap, ◌∙◌, ap₂, subst, true≢false, ◌⊎◌, inl, inr}
 use Rattle.syn_grammar.specs.Tokens.{Terminal, Ended, Fact, Lookahead, lookahead_with, or, and, no, pick, mem, Look, answers}
 use Rattle.syn_grammar.specs.Rules.{Rule}
@@ -14,7 +14,7 @@ pub record Summary : Type 0 where
   pub moves : List Move  -- or the lookahead changes so
   pub nullable : Bool  -- it may read nothing
   pub gone : List Terminal  -- with one of these at its front it may print nothing
-  pub ends : List Look  -- conditions that what follows must answer alike in the source and in the print
+  pub ends : List Look  -- conditions on what follows that must agree in the source and in the print
   pub halts : List Look  -- conditions that, where they are false of what follows in the source, are false of what follows in the print
   pub shuns : List Look  -- conditions that what follows its print must not meet
 
@@ -83,11 +83,11 @@ either_summary p q = record {
   shuns = p.shuns ++ q.shuns;
 }
 
--- what stands behind a form may change so
+-- what follows a form may change so
 abbrev pub keeps : Summary → Move → Bool
 keeps p m = and (agree p.ends m) (and (stay_off p.halts m) (clear p.shuns m.printed))
 
--- two lookaheads behind a form are as its summary asks
+-- two lookaheads after a form are as its summary requires
 pub record Ready (p : Summary) (a b : Lookahead) : Type 0 where
   pub alike_ends : Agree p.ends a b
   pub halted : StayOff p.halts a b
@@ -100,7 +100,7 @@ ready p a b e h s = record { alike_ends = e; halted = h; shunned = s }
 pub at_end : (p : Summary) → clear p.shuns Ended ≡ true → Ready p (lookahead_with Ended []) (lookahead_with Ended [])
 at_end p w = ready p (lookahead_with Ended []) (lookahead_with Ended []) (agree_same p.ends _ _ refl) (stay_off_same p.halts _ _ refl) (clear_sound p.shuns (lookahead_with Ended []) w)
 
--- the lookahead after g keeps what g asked of it, where it is none that g never stands before
+-- the lookahead after g keeps what g required of it, unless it is one that never follows g
 abbrev pub seam : List Look → Summary → Summary → Bool
 seam off p q = and (every2 (λ m. or (excluded off m.source) (keeps p m)) q.moves)
     (and (every (λ a. or (excluded off a) (clear p.shuns a)) q.stays) (every (λ a. or (excluded off a) (clear p.ends a)) q.gone))
@@ -113,7 +113,7 @@ kept c p q = and (every2 (stays_on c) (keep2 c p.moves)) (and (every2 (stays_off
 pub kept_off : (c : Look) (p q : Summary) → kept c p q ≡ true → every2 (stays_off c) (leave2 c q.moves) ≡ true
 kept_off c p q k = and_left (every2 (stays_off c) (leave2 c q.moves)) _ (and_right (every2 (stays_on c) (keep2 c p.moves)) _ k)
 
--- the lookahead a of the source and b of the print, where ra and rb stand behind
+-- the lookahead a of the source and b of the print, where ra and rb follow
 pub data HasLookaheads (p : Summary) (a b ra rb : Lookahead) : Type 0 where
   alike : mem a.terminal p.stays ≡ true → a ≡ b → HasLookaheads p a b ra rb
   altered : (told : List Fact) → mem2 (move a.terminal b.terminal told) p.moves ≡ true → Agree (each_ahead told) a b → HasLookaheads p a b ra rb

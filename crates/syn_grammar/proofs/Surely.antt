@@ -1,10 +1,10 @@
--- What is printed for sure: looks that every lookahead with a terminal meets, or never meets, whatever stands behind it.
+-- What is printed for sure: looks that hold of every lookahead with a terminal, or of none, whatever follows it.
 use Rattle.std.proofs.Common.{◌≡◌, Bool, true, false, List, [], ◌∷◌, refl, sym, ap, ◌∙◌, ap₂, true≢false, ◌⊎◌, inl, inr}
 use Rattle.syn_grammar.specs.Tokens.{or, and, no, pick, Terminal, Lookahead, lookahead_with, Fact, same_fact, has_fact, mem, Look, ended, at_name, at_word, at_mark, at_literal, at_group, at_empty_group, ahead, ◌or_else◌, ◌and_also◌, ◌but_not◌, answers, Asked, facts_for}
 use Rattle.syn_grammar.proofs.Sets.{or_left, or_split, and_left, and_right, no_true, every, every_at, may, must, off_of, on_of, or_right}
 use Rattle.syn_grammar.proofs.Marks.{and_off_left, and_off_right}
 
--- WHAT IS PRINTED FOR SURE: a lookahead with this terminal, and what it asks of what stands behind it, where that has one of these terminals
+-- WHAT IS PRINTED FOR SURE: a lookahead with this terminal, and its conditions on the next one, which has one of these terminals
 abbrev pub never_ahead : Fact → List Terminal → Asked → Bool
 never_ahead n A [] = true
 never_ahead n A (p ∷ l) = and (or (no (same_fact n p.1)) (every (λ e. no (may p.0 e)) A)) (never_ahead n A l)

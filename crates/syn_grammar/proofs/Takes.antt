@@ -143,7 +143,7 @@ pub lifetime_found : (sp : Span) (y : Text) (sq : Span) (ts r : Stream) → ts �
 unfolding take_lifetime
 lifetime_found sp y sq ts r e = ap take_lifetime e
 
--- a mark that stands in front of what is left
+-- a mark in front of what is left
 abbrev Marked : Text → Stream → Spelling → Type 0
 Marked cs ts p = (chars p.0 ≡ cs) × Spelled p.0 ts p.1
 
@@ -202,7 +202,7 @@ pub group_takes : (d : Delimiter) (o c : Span) (i ts r : Stream) → ts ≡ grou
 unfolding take_group
 group_takes d o c i ts r e = ap (take_group d) e ∙ ap (λ b. only b (Some (record { opening = o; closing = c; content = i; rest = r }))) (eq-eqb (delimiter_number d) (delimiter_number d) refl)
 
--- ---- what stood before a rest
+-- ---- the tokens before a rest
 length_append : (a b : Stream) → length (a ⧺ b) ≡ length a + length b
 length_append end b = omega arith
 length_append (leaf x sp m) b = let e = length_append m b in omega arith
@@ -249,7 +249,7 @@ group_told d ts g v e = group_taken d ts g e
 pub group_found : (d : Delimiter) (o c : Span) (i ts r : Stream) → visible ts ≡ true → ts ≡ group d o c i r → take_group d ts ≡ Some (record { opening = o; closing = c; content = i; rest = r })
 group_found d o c i ts r v e = group_takes d o c i ts r e
 
--- ---- what stands in front of what is taken
+-- ---- the first token of what is taken
 pub sees_answers : (c : Look) (ts : Stream) → sees c ts ≡ answers c (lookahead_at ts)
 unfolding sees
 sees_answers c ts = refl

@@ -18,7 +18,7 @@ use Rattle.syn_grammar.proofs.Run.{parse_rule_is}
 use Rattle.syn_grammar.proofs.Begins.{only_at, never_at, not_there, not_here}
 use Rattle.syn_grammar.proofs.Known.{Holds, Known, after_token, after_token_is, clash, clash_is, inside_group, inside_group_is, not_false, not_true, noted, noted_is, some_is}
 
--- ---- FORMS ONE AFTER ANOTHER, of which only the rest is of interest
+-- ---- A SEQUENCE OF FORMS, where only the rest matters
 
 abbrev pub rest : Out → Option Stream
 rest (Some p) = Some p.1
@@ -232,7 +232,7 @@ gone_is (suc n) l (supplied f x y ∷ fs) m e w = no_rest (parse_form (supplied 
 gone_is (suc n) l (row x y ∷ fs) m e w = no_rest (parse_form (row x y) m) (recog fs) (barred_is l (row x y) m e w)
 gone_is (suc n) l (ordered x y ∷ fs) m e w = no_rest (parse_form (ordered x y) m) (recog fs) (barred_is l (ordered x y) m e w)
 
--- ---- AN ALTERNATIVE THAT WAS READ IN PART: what is read now, and what is made of it
+-- ---- A PARTLY READ ALTERNATIVE: the form that is read now, and the value that is made of it
 
 pub data Frame : Type 0 where
   and_next : Grammar → Frame  -- then this form
@@ -242,8 +242,8 @@ pub data Frame : Type 0 where
   in_shape : Shape → Frame
   in_vanishing : Bool → Frame
   in_such : Test → Frame
-  and_behind : Grammar → Frame  -- then this form, behind generics
-  with_generics : Syntax → Frame  -- what stands behind these generics
+  and_behind : Grammar → Frame  -- then this form, after generics
+  with_generics : Syntax → Frame  -- what follows these generics
 
 abbrev pub apply : Frame → Out → Out
 apply (and_next h) o = and_then o (parse_form h)
@@ -316,8 +316,8 @@ back_is (in_such q ∷ k) s m = refl
 back_is (and_behind h ∷ k) s m = refl
 back_is (with_generics t ∷ k) s m = back_is k (Impl t s) m
 
--- What was read (true: of which nothing is shown) loses nothing on its way back: only what is shown of nothing stands in a part that is never
--- printed.
+-- Nothing that was read is lost on the way back (true: no token of it is shown): a part that is never printed holds only values that
+-- show no tokens.
 abbrev pub calm : Bool → List Frame → Bool
 calm q [] = true
 calm q (and_next h ∷ k) = true
@@ -328,7 +328,7 @@ calm q (with_generics t ∷ k) = calm false k
 calm q (in_vanishing true ∷ k) = and q (calm true k)
 calm q (f ∷ k) = calm q k
 
--- by what is known, a choice is made
+-- the known facts decide a choice
 abbrev pub chosen : Bool → Bool → State → State → Option State
 chosen true b p q = Some p
 chosen false true p q = Some q
@@ -396,7 +396,7 @@ abbrev pub picked : {A : Type 0} → Bool → A → Option A → Option A
 picked true a o = Some a
 picked false a o = o
 
--- two forms that read the same, what their tokens tell aside
+-- two forms that read the same, the facts of their tokens aside
 abbrev pub matches : Grammar → Grammar → Bool
 matches (token b k) (token c j) = same_choice k j
 matches (mark b x) (mark c y) = same_text x y
@@ -419,7 +419,7 @@ matches_is (when c then g else h) (when d then x else y) m e =
     ∙ ap₂ (branch (sees d m)) (matches_is g x m (and_left (matches g x) _ q)) (matches_is h y m (and_right (matches g x) _ q))
 matches_is g h m e = ap (λ z. parse_form z m) (same_eq g h e)
 
--- the piece a stands next: what is left behind it
+-- the piece a is next: what is left after it
 abbrev pub eat : ℕ → Known → Grammar → State → Option (List Frame)
 eat zero l a t = None
 eat (suc n) l a (reading g k) =
@@ -494,7 +494,7 @@ pub todo_none : (t : State) (m : Stream) → recog (todo t) m ≡ None → out t
 todo_none (reading g k) m e = todos_none k (parse_form g m) e
 todo_none (holding s k) m e = todos_none k (Some (s, m)) e
 
--- ---- THE SAME OF WHAT IS KEPT AS TOKENS, of which the forms are of no interest
+-- ---- THE SAME OF VERBATIM FORMS, whose forms don't matter
 
 abbrev pub opened : Known → Grammar → Option (List Grammar)
 opened l (g & h) = Some (g ∷ h ∷ [])
@@ -566,7 +566,7 @@ abbrev pub as_side : (List Grammar → Side) → Option (List Grammar) → Optio
 as_side f (Some xs) o = Some (f xs)
 as_side f None o = o
 
--- a form that is opened by what is known, and no rule
+-- a form that the known facts open, and no rule
 abbrev pub early : Known → Grammar → Option (List Grammar)
 early l (rule k) = None
 early l g = opened l g
@@ -616,7 +616,7 @@ side_is l a g = one (split g) refl
     one (Some xs) e = siding l a g (its xs) (λ fs m w. split_is l g xs fs m e w)
     one None e = two (split a) refl
 
--- these forms, at the front of those: what is left of those
+-- these forms are the first of those: the rest of those
 abbrev pub eat_list : ℕ → Known → List Grammar → List Grammar → Option (List Grammar)
 eat_list zero l bs fs = None
 eat_list (suc n) l [] fs = Some fs
@@ -678,7 +678,7 @@ finish_list_is (suc n) l (g ∷ fs) m e w = go (opened l g) refl (λ xs q. finis
 
 pub data Thread : Type 0 where
   of_kind : State → Thread  -- a kind of its own
-  of_kept : State → Thread  -- kept as tokens
+  of_kept : State → Thread  -- verbatim
   listed : List Grammar → Thread  -- the same, where the forms are of no interest
 
 abbrev pub keep : Rule → Stream → Option Stream → Out
@@ -826,7 +826,7 @@ abbrev pub TriedAll : Test → Syntax → List Thread → Type 0
 TriedAll q s [] = Unit {0}
 TriedAll q s (t ∷ ths) = TriedThread q s t × TriedAll q s ths
 
--- what it is known to answer
+-- its known result
 abbrev pub verdict : Test → Bool → Test → Bool
 verdict q b p = pick (same_test q p) b (no b)
 
@@ -885,7 +885,7 @@ passed_all_is k ts q s b (of_kept t ∷ ths) m w h = ap₂ (λ y z. first (keep 
     go None = refl
 passed_all_is k ts q s b (listed fs ∷ ths) m w h = elim w.0 [ ]
 
--- ---- A PLAN FITS ALTERNATIVES, of which this is known of what stands next
+-- ---- A PLAN FITS ALTERNATIVES, where this is known of the next token
 
 abbrev pub all_kept : List Thread → Bool
 all_kept [] = true

@@ -1,4 +1,4 @@
--- What the tests of plans say of values, the tokens that were read tell.
+-- The tokens that were read decide what the tests of plans say of the values.
 use Rattle.std.proofs.Common.{◌≡◌, ℕ, Bool, true, false, List, [], ◌∷◌, ◌++◌, Some, refl, sym, ap, ap₂, ◌∙◌, subst, true≢false, ◌⊎◌, inl, inr}
 use Rattle.std.specs.Prelude.{nat_eq}
 use Rattle.syn_grammar.specs.Words.{Text, keywords, contextual, w_where, w_use, w_type, w_as, equals, comma, star, colons}
@@ -21,14 +21,14 @@ use Rattle.syn_grammar.proofs.Alone.{of_every_rule, implies, by_implied, one_sai
 use Rattle.syn_grammar.proofs.UseGroups.{bare_parts}
 use Rattle.syn_grammar.proofs.Spared.{Often, never, once, more, again, add, count, Counts, joined, counts_none, spared}
 
--- ---- what is said of rules is so
+-- ---- what is stated of the rules holds
 where_spared : (k : Rule) → wordless k ≡ true → spares true wordless w_where (table k) ≡ true
 where_spared k = by_implied (wordless k) _ (of_every_rule (λ k. implies (wordless k) (spares true wordless w_where (table k))) refl refl k)
 
 use_spared : (k : Rule) → opening k ≡ true → spares false opening w_use (table k) ≡ true
 use_spared k = by_implied (opening k) _ (of_every_rule (λ k. implies (opening k) (spares false opening w_use (table k))) refl refl k)
 
--- ---- what was read piece by piece holds no such word
+-- ---- a value that was read piece by piece holds no such word
 module _ (a : Bool) (x : Text) (said : Rule → Bool) (spared_form : (g : Grammar) (s : Syntax) (ts r : Stream) → spares a said x g ≡ true → DerivesPrefix table g s ts r → Counts a x never ts r) where
   pieces_spared : (l : List Piece) (b m : Stream) → all_spare a said x l ≡ true → WasRead l b m → Counts a x never b m
   pieces_spared [] b m e h = counts_none a x b m h
@@ -142,7 +142,7 @@ or_both : (a b : Bool) → a ≡ true → or a b ≡ true
 or_both true b e = refl
 or_both false b e = absurd (true≢false (sym e))
 
--- where it doesn't stand, it stands once at most
+-- where it doesn't occur, it occurs at most once
 none_then_one : (s : Syntax) → no_where s ≡ true → at_most_one_where s ≡ true
 none_then_one (Both s t) e =
     or_both (and (no_where s) (at_most_one_where t)) _ (ap₂ and (and_left (no_where s) _ e) (none_then_one t (and_right (no_where s) _ e)))
@@ -155,7 +155,7 @@ none_then_one (Case k s) e = none_then_one s e
 none_then_one (Such s) e = none_then_one s e
 none_then_one _ e = refl
 
--- ---- a where clause: `where` stands there or nothing does
+-- ---- a where clause: it begins with `where`, or it is empty
 abbrev often : Bool → Often
 often true = once
 often false = never
@@ -262,11 +262,11 @@ colons_roots (x ∷ y ∷ []) b ts r e (m, h, (j, i)) =
     ap (roots b) (h ∙ ap₂ (λ z n. punct z true x.1 n) p i) ∙ ap (λ z. or (and b true) (roots false (punct z j y.1 r))) q ∙ ap (λ z. or z (roots false r)) (and_true b)
 colons_roots (x ∷ y ∷ z ∷ l) b ts r e h = absurd (cc e)
 
--- what stands behind the first word of a tree
+-- what follows the first word of a tree
 abbrev behind_word : Grammar
 behind_word = when at_colons then punctuation colons & rule use_tree else when at_word w_as then plainly (word w_as) & name_or_underscore else empty
 
--- what stands behind a tree in braces
+-- what follows a tree in braces
 abbrev behind_tree : Rule → Grammar
 behind_tree k = when at_comma then punctuation comma & rule k else empty
 
@@ -368,7 +368,7 @@ mutual
   other_roots (Right _) m (w, y) = elim y [ ]
   other_roots _ m y = elim y [ ]
 
--- ---- behind attributes and a visibility, no `use` among them
+-- ---- after attributes and a visibility, no `use` among them
 skipped : (c m : Stream) → count false w_use false c ≡ never → use_roots (c ⧺ m) ≡ use_roots m
 skipped end m e = refl
 skipped (leaf y sp c) m e = go (is_text w_use y) e (skipped c m)
@@ -403,7 +403,7 @@ root_mark_told l b m k t e (n, (m0, h, ik), it) =
     let all : b ≡ (c ⧺ leaf (ident w_use) sp i) ⧺ m = f ∙ ap (λ x. c ⧺ x) (w ∙ ap (leaf (ident w_use) sp) g) ∙ sym (append_append c (leaf (ident w_use) sp i) m) in
     ap use_roots (before_is b (c ⧺ leaf (ident w_use) sp i) m all) ∙ skipped c (leaf (ident w_use) sp i) none ∙ z ∙ sym (holds_value (has root_mark) tt) ∙ ap (has_part root_mark) tv
 
--- ---- by what is seen: where each of the two clauses would stand, `where` or not
+-- ---- by what is seen at the place of each of the two clauses: `where` or not
 pub one_where_seen : (m0 m1 m2 m3 m : Stream) (w q t x : Syntax) → parse_form (rule where_clause) m0 ≡ Some (w, m1) → parse_form (punctuation equals) m1 ≡ Some (q, m2) → parse_form (rule type) m2 ≡ Some (t, m3) →
     parse_form (rule where_clause) m3 ≡ Some (x, m) → holds one_where (parts (w ∷ q ∷ t ∷ x ∷ [])) ≡ or (no (sees (at_word w_where) m0)) (no (sees (at_word w_where) m3))
 one_where_seen m0 m1 m2 m3 m w q t x iw iq it ix =
@@ -420,7 +420,7 @@ trees_told n m t it =
     let (i, g, z) = group_roots tt n m td in
     ap (roots false) (before_is n i m g) ∙ z ∙ sym (holds_value (has root_mark) tt) ∙ ap (has_part root_mark) tv
 
--- ---- what stands before these in an alias and in a use
+-- ---- the tokens before these in an alias and in a use
 pub alias_spared : (a v k n g : Syntax) → all_spare true wordless w_where ((rule generics, g) ∷ (plainly name, n) ∷ (plainly (word w_type), k) ∷ (rule visibility, v) ∷ (rule attributes, a) ∷ []) ≡ true
 alias_spared a v k n g = refl
 

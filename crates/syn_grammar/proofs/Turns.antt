@@ -1,4 +1,4 @@
--- A union whose two forms begin alike is read by one parser: the beginning once, and then by what stands next.
+-- One parser reads a union whose two forms begin alike: the beginning once, and then a branch on the next token.
 use Rattle.std.proofs.Common.{◌≡◌, Bool, true, false, Some, None, refl, ap, ap₂, ◌∙◌}
 use Rattle.syn_grammar.specs.Tokens.{Stream, Look}
 use Rattle.syn_grammar.specs.Rules.{Rule}
@@ -8,7 +8,7 @@ use Rattle.syn_grammar.specs.Run.{wrap, and_then, branch, first_of, union, parse
 use Rattle.syn_grammar.specs.Turns.{beside, turned}
 use Rattle.syn_grammar.proofs.Begins.{only_at, never_at, not_there, not_here}
 
--- rules k = a & g and l = a & h, where g begins only where c stands, and h never there
+-- rules k = a & g and l = a & h, where g begins only where c holds, and h never there
 module _ (k l : Rule) (a g h : Grammar) (c : Look)
     (k_is : (ts : Stream) → parse_rule k ts ≡ wrap Node (and_then (parse_form a ts) (parse_form g))) (l_is : (ts : Stream) → parse_rule l ts ≡ wrap Node (and_then (parse_form a ts) (parse_form h)))
     (here : only_at c g ≡ true) (there : never_at c h ≡ true) where

@@ -1,4 +1,4 @@
--- The grammar is unambiguous: from one stream a form reads at most one tree, where the forms of each union are apart.
+-- The grammar is unambiguous: a form reads at most one tree from a stream, if the forms of each union are apart.
 use Rattle.std.proofs.Common.{◌≡◌, ℕ, zero, suc, Bool, true, false, List, [], ◌∷◌, refl, sym, ap, ◌∙◌, ap₂, subst, true≢false, ◌⊎◌, inl, inr}
 use Rattle.syn_grammar.specs.Words.{Text}
 use Rattle.syn_grammar.specs.Shape.{Shape}

@@ -1,4 +1,4 @@
--- Trees of a use in braces, of which none has `::` before it, are read alike by the two rules of them.
+-- The two rules for the trees of a use in braces agree where no tree begins with `::`.
 use Rattle.std.proofs.Common.{◌≡◌, Bool, true, false, Some, refl, sym, ap, ap₂, ◌∙◌, true≢false, ◌⊎◌, inl, inr}
 use Rattle.syn_grammar.specs.Tokens.{Stream, end, or, and, stands, lookahead}
 use Rattle.syn_grammar.specs.Rules.{Rule, use_tree, use_trees, rooted_tree, rooted_trees, root_mark}
@@ -24,7 +24,7 @@ not_colons s ts r d = go (stands at_colons ts) refl
     go false e = refl
     go true e = absurd (cc (sym (parse_rule_found use_tree ts (Node s) r d) ∙ parse_rule_is use_tree ts ∙ ap (wrap Node) (not_here at_colons (table use_tree) refl ts (sees_stands at_colons ts ∙ e))))
 
--- where braces stand, no mark does
+-- a brace group is no mark
 no_star : (ts : Stream) → stands at_brace ts ≡ true → stands at_star ts ≡ false
 no_star ts e = let (v, f) = brace_terminal (lookahead ts).terminal e in cc (f)
 
@@ -35,7 +35,7 @@ no_brace ts e = go (stands at_brace ts) refl
     go false q = refl
     go true q = absurd (true≢false (sym e ∙ no_star ts q))
 
--- in no tree that the first rule reads a `::` stands before braces in this way
+-- no tree that the first rule reads has such a `::` before braces
 abbrev of_trees : Grammar → Bool
 of_trees empty = true
 of_trees (token b k) = true

@@ -1,4 +1,4 @@
--- What is printed of a visible stream is visible.
+-- The print of a visible stream is visible.
 use Rattle.std.proofs.Common.{◌≡◌, ℕ, Bool, true, false, List, [], ◌∷◌, refl, sym, ap, ◌∙◌, ap₂, inl, inr}
 use Rattle.syn_grammar.specs.Tokens.{Span, Delimiter, Stream, end, punct, group, ◌⧺◌, and, or, pick, is_visible, visible}
 use Rattle.syn_grammar.specs.Rules.{Rule}
@@ -6,7 +6,7 @@ use Rattle.syn_grammar.specs.Grammar.{Syntax, Nothing, Token, Mark, Lifetime, Bo
 use Rattle.syn_grammar.proofs.Sets.{and_left, and_right}
 use Rattle.syn_grammar.proofs.Streams.{visible_append}
 
--- no invisible group stands in what was read
+-- no invisible group is in what was read
 abbrev seen : Syntax → Bool
 seen (Both s t) = and (seen s) (seen t)
 seen (Left s) = seen s

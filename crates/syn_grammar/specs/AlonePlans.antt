@@ -1,5 +1,5 @@
--- THE PLANS OF RULES THAT STAND ALONE: a use, a type alias and an impl behind their attributes, where nothing else may stand. Each is one form
--- with a test behind what it tells of, or with generics of which is known late how they are printed.
+-- THE PLANS OF RULES WITHOUT ALTERNATIVES: a use, a type alias and an impl after their attributes, where nothing else is possible. Each is one
+-- form, with a test of a value after the value, or with generics whose print depends on later parts.
 use Rattle.std.specs.Prelude.{◌≡◌, [], ◌∷◌}
 use Rattle.syn_grammar.specs.Words.{w_const, w_default, w_impl, w_type, w_unsafe, w_use, semicolon, equals, exclamation, colons}
 use Rattle.syn_grammar.specs.Tokens.{Stream, Brace, at_generics}
@@ -11,7 +11,7 @@ use Rattle.syn_grammar.specs.Run.{parse_rule}
 use Rattle.syn_grammar.specs.Plan.{Plan, reads, turns, tests, ends, fails, run_plan}
 use Rattle.syn_grammar.specs.ItemPlan.{parts, absent, hidden}
 
--- A use: with `::` before a tree of its braces it is refused.
+-- A use: it is refused if a tree in its braces has `::` before it.
 unfoldable pub use_alone : Plan
 use_alone =
     reads (rule visibility) λ v. reads (plainly (word w_use)) λ k.
@@ -20,7 +20,7 @@ use_alone =
     (reads (punctuation semicolon) λ z. ends (Node (parts (v ∷ k ∷ Left (Such t) ∷ z ∷ [])))))
     (reads (when at_colons then punctuation colons else empty) λ c. reads (rule use_tree) λ t. reads (punctuation semicolon) λ z. ends (Node (parts (v ∷ k ∷ Right (Both c t) ∷ z ∷ []))))
 
--- A type alias: with two where clauses it is refused.
+-- A type alias: it is refused if it has two where clauses.
 unfoldable pub type_alone : Plan
 type_alone =
     reads (rule visibility) λ v. reads (plainly (word w_type)) λ k. reads (plainly name) λ n. reads (rule generics) λ g. reads (rule where_clause) λ w. reads (punctuation equals) λ q.
@@ -28,11 +28,11 @@ type_alone =
     tests one_where (parts (w ∷ q ∷ t ∷ x ∷ [])) (reads (punctuation semicolon) λ z. ends (Node (parts (v ∷ hidden ∷ k ∷ n ∷ g ∷ hidden ∷ Such (parts (w ∷ q ∷ t ∷ x ∷ [])) ∷ z ∷ []))))
     fails
 
--- an impl: what stands before `impl`, its generics, and what stands behind them
+-- an impl: the parts before `impl`, its generics, and the parts after them
 abbrev pub impl_rest_of : Syntax → Syntax → Syntax → Syntax → Syntax → Syntax → Syntax
 impl_rest_of d c u k g s = Node (parts (d ∷ c ∷ u ∷ k ∷ Impl g s ∷ []))
 
--- An impl behind its generics.
+-- An impl after its generics.
 unfoldable pub plain_types : Syntax → Syntax → Syntax → Syntax → Syntax → Plan
 plain_types d c u k g =
     turns at_exclamation (reads (punctuation exclamation) λ x.
@@ -48,7 +48,7 @@ impl_alone =
     turns at_generics (reads kept_generics λ g. plain_types d c u k (Left g))
     (plain_types d c u k absent)
 
--- The plans read what the rules read, with the same value. (They keep nothing, so any rule may stand for what is kept.) Hold of every stream.
+-- The plans read exactly what the rules read, with the same value. (They store nothing verbatim, so the rule given is arbitrary.) Hold for every stream.
 abbrev pub UseAlone : Type 0
 UseAlone = (ts : Stream) → parse_rule use_item_rest ts ≡ run_plan use_alone kept_item ts ts
 

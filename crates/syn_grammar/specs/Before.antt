@@ -1,6 +1,6 @@
--- THE GRAMMAR BEFORE traits and impls with `const` became kinds of items, and before struct literals.
--- It is the table of today but for these forms. They are written so that what both read has one tree: where the table reads
--- a word or braces, here a side is chosen that reads nothing. (The rules of heads are those of today: before, a head had no rules of its own.)
+-- THE EARLIER GRAMMAR, before traits and impls with `const` became kinds of items, and before struct literals.
+-- It is the current table except for these forms. They are written so that a stream that both grammars read has one tree: where the table
+-- reads a word or braces, a choice here takes a side that reads nothing. (The rules of heads are the current ones: the earlier grammar had none.)
 use Rattle.std.specs.Prelude.{[], ◌∷◌}
 use Rattle.syn_grammar.specs.Words.{w_break, w_const, w_continue, w_default, w_false, w_impl, w_return, w_true, w_unsafe, exclamation}
 use Rattle.syn_grammar.specs.Tokens.{None, Paren, Bracket, at_word, at_lifetime, at_generics}
@@ -10,21 +10,21 @@ use Rattle.syn_grammar.specs.Grammar.{word, any_literal, Grammar, empty, lifetim
 use Rattle.syn_grammar.specs.Forms.{plainly, punctuation, never}
 use Rattle.syn_grammar.specs.Table.{at_exclamation, at_paren, at_brace, at_bracket, at_invisible, at_any_literal, at_module_path, at_macro, at_whole_expression, at_block_like, at_for, parameter, item_word, optional_item_word, kept_generics, table}
 
--- An impl behind its generics.
+-- An impl after its generics.
 abbrev pub impl_head : Grammar
 impl_head =
     when at_exclamation then punctuation exclamation & (when at_brace then rule impl_body else rule type_path & rule for_self_type & rule impl_body)
     else when at_module_path then rule type_path & (when at_for then rule for_self_type else empty) & rule impl_body
     else rule type & rule impl_body
 
--- An impl behind its generics whose first type is no plain path.
+-- An impl after its generics whose first type is no plain path.
 abbrev pub odd_impl_head : Grammar
 odd_impl_head =
     when at_exclamation then punctuation exclamation & (when at_brace then never else when at_module_path then never else rule type & rule for_self_type & rule impl_body)
     else when at_module_path then never
     else rule type & rule for_self_type & rule impl_body
 
--- No `const`; and `const`: each on the side on which the table has it.
+-- No `const`; and `const`: each on the side that it has in the table.
 abbrev pub without_const : Grammar
 without_const = when at_word w_const then never else empty
 
@@ -32,7 +32,7 @@ abbrev pub with_const : Grammar
 with_const = when at_word w_const then item_word w_const else never
 
 abbrev pub before : Rule → Grammar
--- A path with no braces behind it; where braces stand there, a side is chosen, and nothing is read.
+-- A path without the braces after it; if braces are next, the choice takes that side, and reads nothing.
 before primary =
     shaped choice (when at_word w_true then shaped (operand Lit) (plainly (word w_true))
     else when at_word w_false then shaped (operand Lit) (plainly (word w_false))
@@ -70,13 +70,13 @@ before odd_impl =
     & (when at_generics then kept_generics else empty)
     & odd_impl_head)
 --
--- A trait with `const`, behind its attributes.
+-- A trait with `const`, after its attributes.
 before const_trait =
     rule visibility
     & with_const
     & rule bare_trait
 --
--- An impl with `const` and no visibility, behind its attributes.
+-- An impl with `const` and no visibility, after its attributes.
 before const_impl =
     optional_item_word w_default
     & with_const
@@ -93,7 +93,7 @@ before odd_const_impl =
     & (when at_generics then kept_generics else empty)
     & odd_impl_head)
 --
--- The forms that are kept as tokens: these three among them.
+-- The forms that are stored verbatim, including these three.
 before kept_item_rest =
     one_of (bodiless_function ∷ rooted_use ∷ untyped_static ∷ valueless_static ∷ odd_const ∷ macro_definition ∷ odd_type ∷ const_alias ∷ restricted_trait ∷ odd_impl ∷ visible_const_impl ∷ const_trait ∷ const_impl ∷ odd_const_impl ∷ [])
 --

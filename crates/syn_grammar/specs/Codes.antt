@@ -1,4 +1,4 @@
--- How the logic stores a stream: as the list of steps that build it, its parts before it.
+-- The logic stores a stream as the list of steps that build it, its parts before it.
 use Rattle.std.specs.Prelude.{◌≡◌, ℕ, List, [], ◌∷◌, Bool, true, false, cond, ◌==◌, refl}
 use Rattle.std.specs.Coded.{Coded, code_by, coded×, coded_ℕ, coded_list}
 use Rattle.syn_grammar.specs.Tokens.{Span, Delimiter, Paren, Brace, Bracket, None, LitKind, Str, ByteStr, CStr, Byte, Char, Int, Float, Leaf, ident, literal, Stream, end, leaf, punct, group, delimiter_number, kind_number}
@@ -60,14 +60,14 @@ step_from_pair_step_to_pair (add_group Brace o c) = refl
 step_from_pair_step_to_pair (add_group Bracket o c) = refl
 step_from_pair_step_to_pair (add_group None o c) = refl
 
--- the steps of a stream, and then more
+-- the steps of a stream, followed by more steps
 abbrev steps : Stream → List Step → List Step
 steps end l = add_end ∷ l
 steps (leaf x sp m) l = steps m (add_leaf x sp ∷ l)
 steps (punct c j sp m) l = steps m (add_punct c j sp ∷ l)
 steps (group d o c i m) l = steps i (steps m (add_group d o c ∷ l))
 
--- what the steps make, over what was made so far
+-- the streams that the steps build, on a stack
 abbrev run : List Step → List Stream → List Stream
 run [] st = st
 run (add_end ∷ l) st = run l (end ∷ st)

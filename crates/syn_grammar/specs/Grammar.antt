@@ -1,5 +1,5 @@
--- GRAMMARS AS DATA: the forms that a rule is made of, the syntax trees that they read, how a tree prints, and its normal form.
--- `DerivesPrefix` says what each form reads from a token stream; it knows no position and no order of trials. `print` and `normal` are
+-- GRAMMARS AS DATA: the forms of which rules consist, the syntax trees that they read, the print of a tree, and its normal form.
+-- `DerivesPrefix` defines what each form reads from a token stream; it has no positions and no order of trials. `print` and `normal` are
 -- functions of the tree alone.
 use Rattle.std.specs.Prelude.{◌≡◌, ℕ, Bool, true, false, List, [], ◌∷◌, ◌++◌, map, ◌⊎◌, ◌+◌, ◌-◌, ◌*◌, nat_eq, nat_le}
 use Rattle.syn_grammar.specs.Words.{Text, keywords, contextual, w_where, w_underscore, colon, comma, less, greater}
@@ -9,7 +9,7 @@ use Rattle.syn_grammar.specs.SelfTypes.{self_types}
 use Rattle.syn_grammar.specs.RuleNumbers.{same_rule}
 use Rattle.syn_grammar.specs.Shape.{Shape}
 
--- What one token may be.
+-- The kinds of one token.
 pub data Kind : Type 0 where
   name : Kind  -- an identifier that isn't a keyword
   identifier : Kind  -- any identifier, also a keyword
@@ -18,7 +18,7 @@ pub data Kind : Type 0 where
   literal_of : List LitKind → Kind  -- a literal of one of these kinds
   index : Kind  -- a field number: decimal digits without a leading zero, at most 2 ^ 32 - 1
 
--- the terminals that a token of this kind may have
+-- the possible terminals of a token of this kind
 abbrev pub terminals : Kind → List Terminal
 terminals name = Name ∷ map Word contextual
 terminals identifier = Name ∷ map Word (keywords ++ contextual)
@@ -37,12 +37,12 @@ abbrev pub all_digits : Text → Bool
 all_digits [] = true
 all_digits (c ∷ l) = and (is_digit c) (all_digits l)
 
--- the number that digits write, after this one
+-- the number that these digits write, appended to this one
 abbrev pub number_after : ℕ → Text → ℕ
 number_after n [] = n
 number_after n (c ∷ l) = number_after (n * 10 + (c - 48)) l
 
--- no leading zero, but `0`
+-- no leading zero, except in `0`
 abbrev pub leads_well : Text → Bool
 leads_well [] = false
 leads_well (c ∷ []) = true
@@ -52,7 +52,7 @@ leads_well (c ∷ d ∷ l) = no (nat_eq c 48)
 abbrev pub is_index : Text → Bool
 is_index x = and (all_digits x) (and (leads_well x) (nat_le (number_after 0 x) 4294967295))
 
--- what the text must be besides
+-- a further condition on the text
 abbrev pub suits : Kind → Leaf → Bool
 suits index (literal k x) = is_index x
 suits _ x = true
@@ -60,59 +60,59 @@ suits _ x = true
 abbrev pub fits : Kind → Leaf → Bool
 fits k x = and (suits k x) (mem (leaf_terminal x) (terminals k))
 
--- Conditions on a syntax tree, for what no lookahead can decide.
+-- Conditions on a syntax tree that no lookahead can decide.
 pub data Test : Type 0 where
-  trailing_brace no_trailing_brace : Test  -- what was read ends with a group in braces; it doesn't
+  trailing_brace no_trailing_brace : Test  -- the tree ends with a group in braces; it doesn't
   has has_no : Rule → Test  -- some part of it, in groups too, is of this rule by a union's choice; none is
-  one_where : Test  -- the word `where` stands in it once at most, not counting groups
+  one_where : Test  -- it contains the word `where` at most once, not counting groups
 
--- The forms that a rule is made of.
+-- The forms of which rules consist.
 pub data Grammar : Type 0 where
   empty : Grammar  -- reads nothing
-  token : List Fact → Kind → Grammar  -- one token of this kind; of its lookahead other forms may ask these facts (each other fact of it is never asked)
-  mark : Bool → Text → Grammar  -- a mark of one or more characters, all but the last Joint (true: of its lookahead other forms may ask facts)
-  lifetime : Grammar  -- a lifetime: `'` Joint directly before an identifier of any text
+  token : List Fact → Kind → Grammar  -- one token of this kind; other forms may test these facts of its lookahead, and no others
+  mark : Bool → Text → Grammar  -- a mark of one or more characters, all but the last Joint (true: other forms may test facts of its lookahead)
+  lifetime : Grammar  -- a lifetime: `'`, Joint, directly before an identifier of any text
   ◌&◌ : Grammar → Grammar → Grammar  -- a sequence: one form and then the other
-  when◌then◌else◌ : Look → Grammar → Grammar → Grammar  -- a choice by lookahead: the first form where the look holds of what stands next, else the second
-  vanishing : Bool → Look → Grammar → Grammar  -- an optional part, present where the look holds, that is never printed (true), or isn't printed where its list is empty (false)
-  inside : Delimiter → Grammar → Grammar  -- a group with this delimiter, whose content the form reads to its end
-  raw : Delimiter → Grammar  -- a group with this delimiter and any content, which stays as it is, spacing too
-  rest_after : Text → Grammar  -- a mark, and then all that is left of the group or stream, which stays as it is: at least one token tree
+  when◌then◌else◌ : Look → Grammar → Grammar → Grammar  -- a choice by lookahead: the first form if the look holds of the next token, else the second
+  vanishing : Bool → Look → Grammar → Grammar  -- an optional part, present if the look holds; never printed (true), or not printed if its list is empty (false)
+  inside : Delimiter → Grammar → Grammar  -- a group with this delimiter, whose whole content the form reads
+  raw : Delimiter → Grammar  -- a group with this delimiter and any content, stored verbatim, spacing too
+  rest_after : Text → Grammar  -- a mark, then all the rest of the group or stream, stored verbatim: at least one token tree
   either : Grammar → Grammar → Grammar  -- the union of two forms, with no order: no stream is read by both
   one_of : List Rule → Grammar  -- the union of these rules, with no order: no stream is read by two of them
   rule : Rule → Grammar  -- what this rule reads
-  such : Test → Grammar → Grammar  -- a form, where its tree passes this test
-  shaped : Shape → Grammar → Grammar  -- a form whose value is built in this way (it reads, prints and is compared as the form itself)
-  captured : Grammar → Grammar  -- a form that is kept as exactly the tokens that it reads, spacing too
-  unshown : Grammar  -- a part that is never printed: reads nothing, and a tree made by hand may hold anything there
-  supplied : Fact → Grammar → Grammar → Grammar  -- a form, `:` and a second form; where a name stands next whose lookahead tells this fact, the second form alone, and `_` and `:` count as read
-  generics_before : Grammar → Grammar → Grammar → Grammar  -- where generics stand next, a list in `< >` of the first two forms; then the third; printed with `< >` where the third would be read as generics
-  row : Grammar → Grammar → Grammar  -- a comma list of these two forms, up to `>`; the last comma may stand or not
-  ordered : Grammar → Grammar → Grammar  -- such a list in `< >`, printed with the members of the first form first
+  such : Test → Grammar → Grammar  -- a form whose tree must pass this test
+  shaped : Shape → Grammar → Grammar  -- a form whose value is built in this way (it reads, prints and compares as the form itself)
+  captured : Grammar → Grammar  -- a form that is stored as exactly the tokens that it reads, spacing too
+  unshown : Grammar  -- a part that is never printed: it reads nothing, and a tree built by hand may have anything there
+  supplied : Fact → Grammar → Grammar → Grammar  -- a form, `:` and a second form; if a name is next and its lookahead has this fact, the second form alone, with `_` and `:` added to the tree
+  generics_before : Grammar → Grammar → Grammar → Grammar  -- if generics are next, a list in `< >` of the first two forms; then the third form; printed with `< >` if the third would be parsed as generics
+  row : Grammar → Grammar → Grammar  -- a comma list of these two forms, up to `>`; a trailing comma is allowed
+  ordered : Grammar → Grammar → Grammar  -- such a list in `< >`; the members of the first form are printed first
 
 infixr 40 ◌&◌
 infixr 35 when◌then◌else◌
--- Syntax trees: what was read, token by token, with spans. One type serves the trees of all rules.
+-- Syntax trees: the tokens that were read, with spans. One type represents the trees of all rules.
 pub data Syntax : Type 0 where
   Nothing : Syntax
   Token : Leaf → Span → Syntax
   Mark : List (ℕ × Span) → Syntax  -- a mark's characters
   Lifetime : Span → Text → Span → Syntax
   Both : Syntax → Syntax → Syntax  -- of a sequence
-  Left Right : Syntax → Syntax  -- of a choice or of a union of two forms: of the first, of the second
+  Left Right : Syntax → Syntax  -- of a choice or of a union of two forms: by the first form, by the second
   Node : Syntax → Syntax  -- of a rule
   Vanishing : Bool → Syntax → Syntax
   Group : Delimiter → Span → Span → Syntax → Syntax  -- a group, with the spans of its delimiters
   Raw : Delimiter → Span → Span → Stream → Syntax
   Rest : List (ℕ × Span) → Stream → Syntax
-  Case : Rule → Syntax → Syntax  -- of a union of rules: of this one
+  Case : Rule → Syntax → Syntax  -- of a union of rules: by this rule
   Such : Syntax → Syntax
   Shaped : Shape → Syntax → Syntax
-  Captured : Syntax → Stream → Syntax  -- how it was read, and its tokens
+  Captured : Syntax → Stream → Syntax  -- the tree of its reading, and its tokens
   Unshown : Syntax → Syntax  -- a part that is never printed
-  Added : Text → Syntax  -- a mark that is printed, with span 0 to 0, though nothing was read (only of trees made by hand)
-  Impl : Syntax → Syntax → Syntax  -- generics or nothing, and what follows them
-  Done : Syntax  -- a list's end after a comma, or of an empty list
+  Added : Text → Syntax  -- a mark that is printed, with span 0 to 0, though nothing was read (only in trees built by hand)
+  Impl : Syntax → Syntax → Syntax  -- optional generics, and the part after them
+  Done : Syntax  -- the end of a list: after a comma, or of an empty list
   Last : Bool → Syntax → Syntax  -- a list's last member, without a comma (true: of the first form)
   More : Bool → Syntax → Span → Syntax → Syntax  -- a member with its comma, and the others
   Order : List (ℕ × Span) → Syntax → List (ℕ × Span) → Syntax  -- `<`, a list, and `>`
@@ -121,19 +121,19 @@ abbrev pub chars : List (ℕ × Span) → Text
 chars [] = []
 chars (x ∷ l) = x.0 ∷ chars l
 
--- a mark stands in front of r: all but its last character are Joint
+-- a mark is at the front, followed by r: all but its last character are Joint
 abbrev pub Spelled : List (ℕ × Span) → Stream → Stream → Type 0
 Spelled [] ts r = ⊥
 Spelled (x ∷ []) ts r = (j : Bool) × (ts ≡ punct x.0 j x.1 r)
 Spelled (x ∷ y ∷ l) ts r = (m : Stream) × (ts ≡ punct x.0 true x.1 m) × Spelled (y ∷ l) m r
 
--- a mark as it is printed, in front of r
+-- a mark as it is printed, followed by r
 abbrev pub spell : List (ℕ × Span) → Stream → Stream
 spell [] r = r
 spell (x ∷ []) r = punct x.0 false x.1 r
 spell (x ∷ y ∷ l) r = punct x.0 true x.1 (spell (y ∷ l) r)
 
--- there is a tree
+-- there is a token tree
 abbrev pub some_tree : Stream → Bool
 some_tree end = false
 some_tree _ = true
@@ -151,7 +151,7 @@ vacant (Shaped j s) = vacant s
 vacant (Unshown s) = true
 vacant _ = false
 
--- what was read ends with a brace group
+-- the part ends with a group in braces
 abbrev pub ends_brace : Syntax → Bool
 ends_brace (Both s t) = pick (vacant t) (ends_brace s) (ends_brace t)
 ends_brace (Left s) = ends_brace s
@@ -164,12 +164,12 @@ ends_brace (Group Brace o c s) = true
 ends_brace (Raw Brace o c i) = true
 ends_brace _ = false
 
--- it is the word `where`
+-- the token is the word `where`
 abbrev pub bare_leaf : Leaf → Bool
 bare_leaf (ident x) = same_text x w_where
 bare_leaf (literal k x) = false
 
--- some part of it is of this rule, by a union's choice; optional parts and rows aside
+-- some part of it is of this rule, by a union's choice; optional parts and rows are not searched
 abbrev pub has_part : Rule → Syntax → Bool
 has_part k (Both s t) = or (has_part k s) (has_part k t)
 has_part k (Left s) = has_part k s
@@ -180,7 +180,7 @@ has_part k (Case l s) = or (same_rule k l) (has_part k s)
 has_part k (Such s) = has_part k s
 has_part k _ = false
 
--- the word `where` doesn't stand in it; stands once at most: groups, rows and what is never printed aside
+-- the tree doesn't contain the word `where`; contains it at most once: groups, rows and parts that are never printed don't count
 abbrev pub no_where : Syntax → Bool
 no_where (Token x sp) = no (bare_leaf x)
 no_where (Both s t) = and (no_where s) (no_where t)
@@ -223,11 +223,11 @@ at_row_end = at_mark greater
 abbrev pub at_row_comma : Look
 at_row_comma = at_mark comma
 
--- a name stands next whose lookahead tells this
+-- a name is next, and its lookahead has this fact
 abbrev pub at_unnamed : Fact → Look
 at_unnamed n = at_name and_also ahead n
 
--- a mark, and `_`, all of it at this span
+-- the characters of a text as a mark, each at this span
 abbrev pub written : Text → Span → List (ℕ × Span)
 written [] sp = []
 written (c ∷ l) sp = (c, sp) ∷ written l sp
@@ -238,7 +238,7 @@ underscore sp = leaf (ident w_underscore) sp end
 abbrev pub opt_generics : Grammar → Grammar → Grammar
 opt_generics x y = when at_generics then ordered x y else empty
 
--- WHAT A FORM READS: from the stream ts it reads this tree, and r is left. By recursion on the tree.
+-- WHAT A FORM READS: from the stream ts it reads this tree and leaves r. By recursion on the tree.
 abbrev pub DerivesPrefix : (Rule → Grammar) → Grammar → Syntax → Stream → Stream → Type 0
 DerivesPrefix table empty Nothing ts r = ts ≡ r
 DerivesPrefix table (token b k) (Token x sp) ts r = (fits k x ≡ true) × (ts ≡ leaf x sp r)
@@ -271,9 +271,9 @@ DerivesPrefix table (ordered g h) (Order xs l ys) ts r = (m : Stream) × (chars 
     × (m' : Stream) × DerivesPrefix table (row g h) l m m' × (chars ys ≡ greater) × Spelled ys m' r
 DerivesPrefix table _ _ ts r = ⊥
 
--- HOW A TREE PRINTS
+-- THE PRINT OF A TREE
 
--- the tree holds no list element: nothing but a colon, the word `where`, and an empty list
+-- the tree has no list element: only a colon, the word `where`, and empty lists
 abbrev pub bare : Syntax → Bool
 bare Nothing = true
 bare (Token x sp) = bare_leaf x
@@ -303,7 +303,7 @@ abbrev pub added : Text → List (ℕ × Span)
 added [] = []
 added (c ∷ l) = (c, call_site) ∷ added l
 
--- the tokens of a tree, in its order
+-- the tokens of a tree, in the tree's order
 abbrev pub show : Syntax → Stream
 show Nothing = end
 show (Token x sp) = leaf x sp end
@@ -329,7 +329,7 @@ show (Last k s) = show s
 show (More k s sp t) = show s ⧺ punct 44 false sp (show t)
 show (Order xs l ys) = spell xs (show l ⧺ spell ys end)
 
--- puts one of the second form behind all of the first; a comma is added behind one that is no longer the last
+-- puts a member of the second form after all members of the first; a member that is no longer the last gets a comma
 abbrev pub behind : Syntax → Span → Syntax → Syntax
 behind s sp (More true x q u) = More true x q (behind s sp u)
 behind s sp (Last true x) = More true x call_site (More false s sp Done)
@@ -344,7 +344,7 @@ sort s = s
 abbrev pub no_generics : Syntax
 no_generics = Left (Order (written less call_site) Done (written greater call_site))
 
--- some part that was read as a self type would, printed, be read as generics; groups and lists aside
+-- some part that was read as a self type would be parsed as generics in the print; groups and lists are not searched
 abbrev pub led_part : Syntax → Bool
 led_part (Both s t) = or (led_part s) (led_part t)
 led_part (Left s) = led_part s
@@ -354,11 +354,11 @@ led_part (Case k s) = or (and (among k self_types) (stands at_generics (show s))
 led_part (Such s) = led_part s
 led_part _ = false
 
--- of what stands behind an impl's generics: it would be read as generics, or its self type behind `for` would
+-- of the part after an impl's generics: it would be parsed as generics, or its self type after `for` would
 abbrev pub led : Syntax → Bool
 led s = or (stands at_generics (show s)) (led_part s)
 
--- the tree that is printed: optional parts whose list is empty are gone, and members of the first form stand first in ordered lists
+-- the tree that is printed: without optional parts whose list is empty, and with the members of the first form first in ordered lists
 abbrev pub renew : Syntax → Syntax
 renew (Both s t) = Both (renew s) (renew t)
 renew (Left s) = Left (renew s)
@@ -418,6 +418,6 @@ plain_syntax (Last k s) = Last k (plain_syntax s)
 plain_syntax (More k s sp t) = More k (plain_syntax s) call_site (plain_syntax t)
 plain_syntax (Order xs l ys) = Order (plain_mark xs) (plain_syntax l) (plain_mark ys)
 
--- THE NORMAL FORM of a tree: what is printed of it, with every span 0 to 0
+-- THE NORMAL FORM of a tree: the printed tree, with every span 0 to 0
 abbrev pub normal : Syntax → Syntax
 normal s = plain_syntax (renew s)

@@ -1,4 +1,4 @@
--- THE GRAMMAR HAS GROWN: traits and impls with `const` became kinds of items, and struct literals came.
+-- THE GRAMMAR HAS GROWN: traits and impls with `const` became kinds of items, and struct literals were added.
 use Rattle.std.specs.Prelude.{◌≡◌, Bool, true, false, [], ◌∷◌}
 use Rattle.syn_grammar.specs.Tokens.{Stream, end, and, no, pick}
 use Rattle.syn_grammar.specs.Rules.{Rule, kept_item, kept_item_rest, kept_in_block, trait_definition, trait_definition_rest, impl_definition, impl_definition_rest, odd_impl, const_trait, const_impl, odd_const_impl}
@@ -8,11 +8,11 @@ use Rattle.syn_grammar.specs.Grammar.{Syntax, Both, Left, Right, Node, Vanishing
 use Rattle.syn_grammar.specs.Before.{before}
 use Rattle.syn_grammar.specs.Laws.{Derives}
 
--- forms of items that were kept as tokens, and are read as kinds of items, or as another form, now
+-- forms of items that the earlier grammar stored verbatim, and that are now kinds of items, or another form
 abbrev pub is_moved : Rule → Bool
 is_moved k = among k (const_trait ∷ const_impl ∷ odd_const_impl ∷ [])
 
--- no part of it is of such a form
+-- no part of the tree is of such a form
 abbrev pub unmoved : Syntax → Bool
 unmoved (Case k s) = and (no (is_moved k)) (unmoved s)
 unmoved (Both s t) = and (unmoved s) (unmoved t)
@@ -30,23 +30,23 @@ unmoved (More k s sp t) = and (unmoved s) (unmoved t)
 unmoved (Order xs l ys) = unmoved l
 unmoved s = true
 
--- A TREE IS LIFTED: each moved form in it is what it is read as now
+-- LIFTING A TREE: each moved form in it becomes the form that reads it now
 
--- the one form that is kept as tokens still
+-- the form that is still stored verbatim
 abbrev pub renamed : Rule → Syntax → Syntax
 renamed k s = pick (same_rule k odd_const_impl) (Case odd_impl s) (Case k s)
 
--- one of three, by which form it is: a trait with `const`, an impl with `const`, or another
+-- one of three, depending on the form: a trait with `const`, an impl with `const`, or another
 abbrev pub by_form : Rule → Syntax → Syntax → Syntax → Syntax
 by_form k s t u = pick (same_rule k const_trait) s (pick (same_rule k const_impl) t u)
 
--- an item that was kept as tokens
+-- an item that was stored verbatim
 abbrev pub lift_item : Syntax → Syntax
 lift_item (Captured (Both a (Node (Case k s))) i) =
     by_form k (Case trait_definition (Both a (Node s))) (Case impl_definition (Both a (Node s))) (Case kept_item (Captured (Both a (Node (renamed k s))) i))
 lift_item s = Case kept_item s
 
--- the same as a statement behind its attributes, and the statements behind it; and alone
+-- the same for a statement after its attributes, with the statements after it; and for a single statement
 abbrev pub item_of_list : Syntax → Rule → Syntax → Syntax → Syntax
 item_of_list a k s l = Shaped listed (Right (Both a (Left (Shaped an_item (Both (Node (Case k s)) l)))))
 
@@ -60,7 +60,7 @@ lift_shaped single (Left (Shaped an_item (Node (Captured (Both a (Left (Node (Ca
     by_form k (item_alone a trait_definition_rest s) (item_alone a impl_definition_rest s) (Shaped single (Left (Shaped an_item (Node (Captured (Both a (Left (Node (renamed k s)))) i)))))
 lift_shaped j s = Shaped j s
 
--- true: all of it; false: what stands in groups alone (of what a test looks at, no more can be of such a form)
+-- true: lifts all of the tree; false: only the parts in groups (no other part of a tested tree can be of such a form)
 abbrev pub lift_in : Bool → Syntax → Syntax
 lift_in b (Both s t) = Both (lift_in b s) (lift_in b t)
 lift_in b (Left s) = Left (lift_in b s)
@@ -81,14 +81,14 @@ lift_in b s = s
 abbrev pub lift : Syntax → Syntax
 lift s = lift_in true s
 
--- rules of parts of items that are kept as tokens, which the grammar reads otherwise; and names that only the grammar before has
+-- rules of parts of verbatim items, which the two grammars read differently; and names that only the earlier grammar has
 abbrev pub is_part : Rule → Bool
 is_part k = among k (kept_item ∷ kept_item_rest ∷ kept_in_block ∷ const_trait ∷ const_impl ∷ odd_const_impl ∷ [])
 
--- What a rule of the grammar before derives, the grammar derives of the same tokens, lifted.
+-- What a rule of the earlier grammar derives, the grammar derives of the same tokens, as the lifted tree.
 abbrev pub StillDerives : Type 0
 StillDerives = (k : Rule) (ts : Stream) (s : Syntax) → is_part k ≡ false → DerivesPrefix before (rule k) s ts end → Derives k ts (lift s)
 
--- A tree with no moved form in it is as it was when it is lifted, and so is its print.
+-- Lifting a tree without a moved form doesn't change it, nor its print.
 abbrev pub LiftKeeps : Type 0
 LiftKeeps = (s : Syntax) → unmoved s ≡ true → lift s ≡ s

@@ -1,5 +1,5 @@
--- THE PLAN OF AN ITEM: the rule `item` without a union. Attributes and visibility are read once; the words that stand next then say what
--- it is, and behind the last part that several forms have in common stands what tells them apart.
+-- THE PLAN OF AN ITEM: the rule `item` without a union. It reads attributes and visibility once; then the next words decide the kind of
+-- item, and after the last part that several forms share, it branches on the token that distinguishes them.
 use Rattle.std.specs.Prelude.{◌≡◌, true, false, List, [], ◌∷◌}
 use Rattle.syn_grammar.specs.Words.{w_as, w_async, w_const, w_crate, w_enum, w_extern, w_fn, w_impl, w_macro, w_mod, w_mut, w_pub, w_self, w_static, w_struct, w_trait, w_try, w_type, w_unsafe, w_use, w_union, w_auto, w_default, semicolon, colon, equals, exclamation, colons}
 use Rattle.syn_grammar.specs.Tokens.{Stream, Paren, Brace, Str, Begins_item, Before_macro, Begins_in, Lone_word, Look, at_word, at_literal, at_empty_group, ahead, ◌or_else◌, ◌and_also◌, at_generics}
@@ -11,21 +11,21 @@ use Rattle.syn_grammar.specs.Values.{untag}
 use Rattle.syn_grammar.specs.Run.{parse_rule}
 use Rattle.syn_grammar.specs.Plan.{Plan, reads, turns, tests, keeps, ends, done, fails, run_plan}
 
--- parts one after another, as a sequence has them
+-- parts in order, nested as a sequence nests them
 abbrev pub parts : List Syntax → Syntax
 parts [] = Nothing
 parts (s ∷ []) = s
 parts (s ∷ t ∷ l) = Both s (parts (t ∷ l))
 
--- an item of a kind of its own: attributes, and what stands behind them
+-- an item of a kind of its own: attributes, and the value of the rest
 abbrev pub item_of : Rule → Syntax → Syntax → Syntax
 item_of k a s = Node (Case k (Both a (Node s)))
 
--- an impl: what stands before `impl`, its generics, and what stands behind them
+-- an impl: the parts before `impl`, its generics, and the parts after them
 abbrev pub impl_of : Syntax → Syntax → Syntax → Syntax → Syntax → Syntax → Syntax → Syntax
 impl_of a d c u k g s = item_of impl_definition a (parts (d ∷ c ∷ u ∷ k ∷ Impl g s ∷ []))
 
--- what isn't there
+-- an absent optional part
 abbrev pub absent : Syntax
 absent = Right Nothing
 
@@ -33,35 +33,35 @@ absent = Right Nothing
 abbrev pub hidden : Syntax
 hidden = Unshown Nothing
 
--- no visibility is written
+-- the value of an omitted visibility
 abbrev pub inherited : Syntax
 inherited = Node (Right (Vanishing true absent))
 
--- where an item stands, behind its attributes: behind `pub`; behind an invisible group, which stands for no visibility; or with no
--- visibility before it
+-- how an item, after its attributes, begins: with `pub`; with an invisible group, which represents an omitted visibility; or without
+-- a visibility
 pub data Place : Type 0 where
   public unwritten plain : Place
 
--- Parentheses that begin with `in` stand next: behind `impl` they are a restriction.
+-- Parentheses that begin with `in` are next: after `impl` they are a restriction.
 abbrev pub at_in_restriction : Look
 at_in_restriction = at_paren and_also ahead Begins_in
 
--- Parentheses that hold `crate`, `self` or `super` alone stand next: behind `impl` they are a restriction or a type.
+-- Parentheses that hold `crate`, `self` or `super` alone are next: after `impl` they are a restriction or a type.
 abbrev pub at_lone_word : Look
 at_lone_word = at_paren and_also ahead Lone_word
 
--- A semicolon ends what is kept as tokens.
+-- The semicolon at the end of a form that is stored verbatim.
 unfoldable pub kept_end : Plan
 kept_end =
     reads (punctuation semicolon) λ z. done
 
--- Behind a signature: `;`, by which the function is kept as tokens, or a body.
+-- After a signature: `;`, and the function is stored verbatim; or a body.
 unfoldable pub function_end : Syntax → Syntax → Syntax → Plan
 function_end a v s =
     turns at_semicolon (keeps kept_end)
     (reads (rule body) λ b. ends (item_of function a (parts (v ∷ hidden ∷ s ∷ b ∷ []))))
 
--- A function behind the modifiers of its signature: `const`, `async`, `unsafe` and an ABI, each of them or not.
+-- A function after the modifiers of its signature: `const`, `async`, `unsafe` and an ABI, all optional.
 unfoldable pub signature_end : Syntax → Syntax → Syntax → Syntax → Syntax → Syntax → Plan
 signature_end a v c y u e =
     reads (rule signature_rest) λ s. function_end a v (Node (parts (c ∷ y ∷ u ∷ e ∷ s ∷ [])))
@@ -86,7 +86,7 @@ unfoldable pub union_plan : Syntax → Syntax → Plan
 union_plan a v =
     reads (item_word w_union) λ k. reads (plainly name) λ n. reads (rule generics) λ g. reads (rule where_clause) λ w. reads (rule fields_named) λ b. ends (item_of union_item a (parts (v ∷ k ∷ n ∷ g ∷ w ∷ b ∷ [])))
 
--- A type alias. It is kept as tokens with a colon behind its generics, or without `=` behind these and a where clause.
+-- A type alias. It is stored verbatim if a colon follows its generics, or if no `=` follows the generics and the where clause.
 unfoldable pub type_plan : Syntax → Syntax → Plan
 type_plan a v =
     reads (plainly (word w_type)) λ k. reads (plainly name) λ n. reads (rule generics) λ g.
@@ -97,7 +97,7 @@ type_plan a v =
     fails)
     (keeps kept_end))
 
--- A static. It is kept as tokens without a type, or without a value.
+-- A static. It is stored verbatim if it has no type, or no value.
 unfoldable pub static_plan : Syntax → Syntax → Plan
 static_plan a v =
     reads (item_word w_static) λ k. reads (optional w_mut) λ u. reads (plainly name) λ n.
@@ -106,7 +106,7 @@ static_plan a v =
     (keeps kept_end))
     (keeps (reads (punctuation equals) λ q. reads (rule whole_expression) λ e. kept_end))
 
--- A use. It is kept as tokens with `::` before a tree of its braces.
+-- A use. It is stored verbatim if a tree in its braces has `::` before it.
 unfoldable pub use_plan : Syntax → Syntax → Plan
 use_plan a v =
     reads (plainly (word w_use)) λ k.
@@ -115,38 +115,38 @@ use_plan a v =
     (reads (punctuation semicolon) λ z. ends (item_of use_item a (parts (v ∷ k ∷ Left (Such t) ∷ z ∷ [])))))
     (reads (when at_colons then punctuation colons else empty) λ c. reads (rule use_tree) λ t. reads (punctuation semicolon) λ z. ends (item_of use_item a (parts (v ∷ k ∷ Right (Both c t) ∷ z ∷ []))))
 
--- A module, behind `unsafe` or without it.
+-- A module, after an optional `unsafe`.
 unfoldable pub module_plan : Syntax → Syntax → Syntax → Plan
 module_plan a v u =
     reads (plainly (word w_mod)) λ k. reads (plainly (name_or (w_try ∷ []))) λ n.
     turns at_semicolon (reads (punctuation semicolon) λ z. ends (item_of module_item a (parts (v ∷ u ∷ k ∷ n ∷ Left z ∷ []))))
     (reads (inside Brace (rule inner_attributes & rule items)) λ b. ends (item_of module_item a (parts (v ∷ u ∷ k ∷ n ∷ Right (Both hidden b) ∷ []))))
 
--- A trait behind its generics; before `trait` stood `const`, `unsafe` and `auto`, each of them or not.
+-- A trait after its generics; `const`, `unsafe` and `auto` before `trait` are optional.
 unfoldable pub trait_end : Syntax → Syntax → Syntax → Syntax → Syntax → Syntax → Syntax → Syntax → Plan
 trait_end a v c u o k n g =
     reads (vanishing false at_colon (punctuation colon & rule supertraits)) λ b. reads (rule where_clause) λ w. reads (inside Brace (rule inner_attributes & rule trait_items)) λ m. ends (item_of trait_definition a (parts (v ∷ c ∷ Node (parts (u ∷ o ∷ k ∷ n ∷ g ∷ b ∷ w ∷ m ∷ [])) ∷ [])))
 
--- A trait before `auto`, where it is no alias.
+-- A trait that is no alias, before `auto`.
 unfoldable pub trait_plan : Syntax → Syntax → Syntax → Syntax → Plan
 trait_plan a v c u =
     reads (optional_item_word w_auto) λ o. reads (plainly (word w_trait)) λ k. reads (plainly name) λ n. reads (rule generics) λ g. trait_end a v c u o k n g
 
--- A trait or an alias of traits, which begins with `trait`.
+-- A trait or a trait alias; the next word is `trait`.
 unfoldable pub trait_or_alias : Syntax → Syntax → Plan
 trait_or_alias a v =
     reads (plainly (word w_trait)) λ k. reads (plainly name) λ n. reads (rule generics) λ g.
     turns at_equals (reads (punctuation equals) λ q. reads (rule alias_bounds) λ b. reads (rule where_clause) λ w. reads (punctuation semicolon) λ z. ends (item_of trait_alias a (parts (v ∷ Node (parts (k ∷ n ∷ g ∷ q ∷ b ∷ w ∷ z ∷ [])) ∷ []))))
     (trait_end a v absent absent absent k n g)
 
--- The same behind `const`: an alias is kept as tokens.
+-- The same after `const`: an alias is stored verbatim.
 unfoldable pub const_trait_or_alias : Syntax → Syntax → Syntax → Plan
 const_trait_or_alias a v c =
     reads (plainly (word w_trait)) λ k. reads (plainly name) λ n. reads (rule generics) λ g.
     turns at_equals (keeps (reads (punctuation equals) λ q. reads (rule alias_bounds) λ b. reads (rule where_clause) λ w. kept_end))
     (trait_end a v c absent absent k n g)
 
--- A constant behind `const`. It is kept as tokens with generics, with a where clause or without a value.
+-- A constant after `const`. It is stored verbatim if it has generics or a where clause, or no value.
 unfoldable pub const_plan : Syntax → Syntax → Syntax → Plan
 const_plan a v k =
     reads name_or_underscore λ n.
@@ -157,17 +157,17 @@ const_plan a v k =
     (keeps (reads kept_where_clause λ w. kept_end)))
     (keeps (reads optional_where_clause λ w. kept_end)))
 
--- A definition by `macro`, which is kept as tokens.
+-- A definition by `macro`, which is stored verbatim.
 unfoldable pub definition_plan : Plan
 definition_plan =
     keeps (reads (plainly (word w_macro)) λ k. reads (plainly name) λ n. reads (when at_paren then raw Paren else empty) λ p. reads (raw Brace) λ b. done)
 
--- An impl behind its first type, which is no plain path, where `for` stands: it is kept as tokens.
+-- An impl after its first type, which is no plain path, at `for`: it is stored verbatim.
 unfoldable pub kept_impl : Plan
 kept_impl =
     keeps (reads (rule for_self_type) λ f. reads (rule impl_body) λ b. done)
 
--- An impl behind its generics: whether the first type is a plain path is seen from what stands next.
+-- An impl after its generics: the next token decides whether the first type is a plain path.
 unfoldable pub impl_types : Syntax → Syntax → Syntax → Syntax → Syntax → Syntax → Plan
 impl_types a d c u k g =
     turns at_exclamation (reads (punctuation exclamation) λ x.
@@ -179,18 +179,18 @@ impl_types a d c u k g =
     turns at_for kept_impl
     (reads (rule impl_body) λ b. ends (impl_of a d c u k g (Right (Right (Both t b)))))))
 
--- An impl behind `impl`.
+-- An impl after `impl`.
 unfoldable pub impl_generics : Syntax → Syntax → Syntax → Syntax → Syntax → Plan
 impl_generics a d c u k =
     turns at_generics (reads kept_generics λ g. impl_types a d c u k (Left g))
     (impl_types a d c u k absent)
 
--- An impl behind what may stand before `impl`: `default`, `const` and `unsafe`, each of them or not.
+-- An impl after the optional `default`, `const` and `unsafe` before `impl`.
 unfoldable pub impl_plan : Syntax → Syntax → Syntax → Syntax → Plan
 impl_plan a d c u =
     reads (plainly (word w_impl)) λ k. impl_generics a d c u k
 
--- An impl behind a visibility and `const`, which is kept as tokens.
+-- An impl after a visibility and `const`, which is stored verbatim.
 unfoldable pub visible_impl : Plan
 visible_impl =
     keeps (reads (plainly (word w_impl)) λ k. reads (when at_generics then kept_generics else empty) λ g.
@@ -199,7 +199,7 @@ visible_impl =
     (reads (rule type) λ t. reads (rule for_self_type) λ f. reads (rule impl_body) λ b. done))
     (reads (rule type) λ t. reads (when at_for then rule for_self_type else empty) λ f. reads (rule impl_body) λ b. done))
 
--- An impl behind `const`, and perhaps `unsafe`.
+-- An impl after `const` and an optional `unsafe`.
 unfoldable pub const_impl_plan : Place → Syntax → Syntax → Syntax → Plan
 const_impl_plan public a c u =
     visible_impl
@@ -208,7 +208,7 @@ const_impl_plan unwritten a c u =
 const_impl_plan plain a c u =
     impl_plan a absent c u
 
--- Behind `extern`, and perhaps `unsafe` before it (as a foreign module has it, and as a signature does): perhaps a literal; and a foreign module, where nothing stood before, or a function.
+-- After an optional `unsafe` (in two forms: of a foreign module and of a signature) and `extern`: an optional literal, and a foreign module or a function.
 unfoldable pub extern_plan : Place → Syntax → Syntax → Syntax → Syntax → Syntax → Plan
 extern_plan plain a v m u e =
     reads (when at_literal Str then plainly (literal_of (Str ∷ [])) else empty) λ l.
@@ -217,18 +217,18 @@ extern_plan plain a v m u e =
 extern_plan p a v m u e =
     reads (when at_literal Str then plainly (literal_of (Str ∷ [])) else empty) λ l. signature_end a v absent absent u (Left (Node (Both e l)))
 
--- An extern crate behind `extern`.
+-- An extern crate after `extern`.
 unfoldable pub extern_crate_plan : Syntax → Syntax → Syntax → Plan
 extern_crate_plan a v e =
     reads (plainly (word w_crate)) λ k. reads (plainly (name_or (w_self ∷ []))) λ n. reads (when at_word w_as then plainly (word w_as) & name_or_underscore else empty) λ r. reads (punctuation semicolon) λ z. ends (item_of extern_crate a (parts (v ∷ e ∷ k ∷ n ∷ r ∷ z ∷ [])))
 
--- A trait behind `impl` and a restriction in parentheses, which is kept as tokens.
+-- A trait after `impl` and a restriction in parentheses, which is stored verbatim.
 unfoldable pub restricted_end : Plan
 restricted_end =
     reads (optional w_const) λ c. reads (rule bare_trait) λ t. done
 
--- `impl`, with nothing before it but perhaps a visibility: a trait behind a restriction, or an impl, which has no visibility.
--- Behind parentheses that hold one word, which the rule of types reads as a type, `for`, `where` or braces stand in an impl alone.
+-- `impl`, after an optional visibility: a trait with a restriction, or an impl, which has no visibility.
+-- Parentheses with one word inside are read by the rule of types; if `for`, `where` or braces follow them, it is an impl.
 unfoldable pub bare_impl_plan : Place → Syntax → Plan
 bare_impl_plan plain a =
     reads (plainly (word w_impl)) λ k.
@@ -244,7 +244,7 @@ bare_impl_plan p a =
     (turns at_lone_word (reads (rule type) λ t. restricted_end)
     fails))
 
--- Behind `unsafe`: no module and no trait.
+-- After `unsafe`: neither a module nor a trait.
 unfoldable pub unsafe_plan : Place → Syntax → Syntax → Syntax → Plan
 unsafe_plan plain a v u =
     turns (at_word w_impl) (impl_plan a absent absent (Left u))
@@ -254,7 +254,7 @@ unsafe_plan p a v u =
     turns at_extern (reads (plainly (word w_extern)) λ e. extern_plan p a v (Left u) (Node (Left (untag u))) e)
     (signature_end a v absent absent (Node (Left (untag u))) absent)
 
--- Behind `const`.
+-- After `const`.
 unfoldable pub behind_const : Place → Syntax → Syntax → Syntax → Plan
 behind_const p a v c =
     turns (at_word w_unsafe) (reads (item_word w_unsafe) λ u.
@@ -267,13 +267,13 @@ behind_const p a v c =
     (turns (at_word w_async or_else at_extern or_else at_word w_fn) (reads (optional_item_word w_async) λ y. reads (rule unsafe_only) λ u. abi_and_signature a v (Left c) y u)
     (const_plan a v c)))))
 
--- A macro: no other item begins so.
+-- A macro: no other item begins with these tokens.
 unfoldable pub macro_plan : Syntax → Plan
 macro_plan a =
     turns at_no_macro_item fails
     (reads (rule module_path) λ p. reads (when at_bang then asking_punctuation exclamation else never) λ x. reads (when at_macro_name then plainly (name_or (w_try ∷ [])) else empty) λ n. reads (rule macro_end) λ g. ends (item_of macro_as_item a (Right (Node (parts (p ∷ x ∷ n ∷ g ∷ []))))))
 
--- What else may stand: an impl behind `default`, which is no path of a macro; or a macro.
+-- The remaining items: an impl with `default`, unless `default` is the path of a macro; or a macro.
 unfoldable pub other_plan : Place → Syntax → Plan
 other_plan plain a =
     turns (at_word w_default) (turns (ahead Before_macro) (macro_plan a)
@@ -282,7 +282,7 @@ other_plan plain a =
 other_plan p a =
     fails
 
--- AN ITEM behind its attributes and its visibility: the words that stand next say what it is, or what it may still be.
+-- AN ITEM after its attributes and its visibility: the next words decide which kinds of item are possible.
 unfoldable pub behind_visibility : Place → Syntax → Syntax → Plan
 behind_visibility p a v =
     turns (at_word w_struct) (struct_plan a v)
@@ -307,18 +307,18 @@ behind_visibility p a v =
     (turns (at_word w_impl) (bare_impl_plan p a)
     (other_plan p a)))))))))))))))
 
--- AN ITEM behind its attributes: its visibility, and what stands behind it.
+-- AN ITEM after its attributes: its visibility and the rest.
 unfoldable pub item_behind : Syntax → Plan
 item_behind a =
     turns (at_word w_pub) (reads (rule visibility) λ v. behind_visibility public a v)
     (turns at_empty_group (reads (rule visibility) λ v. behind_visibility unwritten a v)
     (behind_visibility plain a inherited))
 
--- AN ITEM: its attributes, and what stands behind them.
+-- AN ITEM: its attributes and the rest.
 unfoldable pub item_plan : Plan
 item_plan =
     reads (rule attributes) λ a. item_behind a
 
--- The plan reads what the rule reads, with the same value. Holds of every stream.
+-- The plan reads exactly what the rule reads, with the same value. Holds for every stream.
 abbrev pub ItemPlan : Type 0
 ItemPlan = (ts : Stream) → parse_rule item ts ≡ run_plan item_plan kept_item ts ts

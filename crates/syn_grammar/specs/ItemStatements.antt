@@ -9,17 +9,17 @@ use Rattle.syn_grammar.specs.Values.{listing}
 use Rattle.syn_grammar.specs.Take.{sees}
 use Rattle.syn_grammar.specs.Run.{wrap, and_then, parse_rule}
 
--- an item as a statement alone
+-- an item as a single statement
 abbrev pub item_statement : Syntax → Syntax
 item_statement s = Node (Shaped an_item s)
 
--- an item and the statements behind it, as a list of statements
+-- an item and the statements after it, as a list of statements
 abbrev pub item_listed : Syntax → Syntax
 item_listed (Both s l) = Node (Right (listing (Shaped an_item s) l))
 item_listed s = s
 
--- Where an item stands next behind the attributes, a statement is what `item` reads, attributes and all; and statements are this and the
--- statements behind it. Holds of every stream.
+-- If an item is next after the attributes, a statement is what `item` reads, with the attributes; and a list of statements is this and the
+-- statements after it. Holds for every stream.
 abbrev pub ItemStatements : Type 0
 ItemStatements = (ts m : Stream) (a : Syntax) → parse_rule attributes ts ≡ Some (a, m) → sees at_item m ≡ true →
     (parse_rule statement ts ≡ wrap item_statement (parse_rule item ts))

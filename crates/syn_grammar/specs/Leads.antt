@@ -1,5 +1,5 @@
--- WHAT LEADS AN IMPL: whether what stands behind its generics, or its self type behind `for`, would be read as generics. The print of empty generics
--- asks that of what is printed (`led`); who reads an impl sees it in the tokens.
+-- WHEN AN IMPL NEEDS EMPTY GENERICS: whether the part after its generics, or its self type after `for`, would be parsed as generics. For empty
+-- generics the print tests this on the printed tree (`led`); a parser of impls sees it in the tokens.
 use Rattle.std.specs.Prelude.{◌≡◌, Bool, false, [], ◌∷◌, Some, None}
 use Rattle.syn_grammar.specs.Words.{w_for, exclamation}
 use Rattle.syn_grammar.specs.Tokens.{Stream, ◌⧺◌, or, at_generics, stands}
@@ -11,7 +11,7 @@ use Rattle.syn_grammar.specs.Take.{Out, sees, take_token}
 use Rattle.syn_grammar.specs.Run.{parse_rule, parse_form}
 use Rattle.syn_grammar.specs.ItemPlan.{parts}
 
--- generics stand behind the `for` that stands next
+-- generics follow the `for` that is next
 abbrev pub generics_behind : Out → Bool
 generics_behind (Some p) = sees at_generics p.1
 generics_behind None = false
@@ -23,12 +23,12 @@ leads_on ts = generics_behind (take_token (word w_for) ts)
 abbrev pub Reads : Grammar → Stream → Syntax → Stream → Type 0
 Reads g m s r = parse_form g m ≡ Some (s, r)
 
--- A type, printed before anything, would be read as generics exactly where its tokens would be.
+-- The print of a type, before anything, would be parsed as generics if and only if its tokens would be.
 abbrev pub TypeLeads : Type 0
 TypeLeads = (m r q : Stream) (t : Syntax) → parse_rule type m ≡ Some (t, r) → stands at_generics (print t ⧺ q) ≡ sees at_generics m
 
--- AN IMPL behind its generics, by what stands there: `!` and braces; `!`, a path and `for` with a type; a path, with `for` and a type or
--- without them; any other type. What the print asks (`led`) is what the tokens say. Hold of every stream.
+-- AN IMPL after its generics, by the next tokens: `!` and braces; `!`, a path and `for` with a type; a path, with an optional `for` and type;
+-- any other type. The test of the print (`led`) agrees with the tokens. Hold for every stream.
 abbrev pub NeverLed : Type 0
 NeverLed = (m n r : Stream) (x b : Syntax) → Reads (punctuation exclamation) m x n → Reads (rule impl_body) n b r → led (renew (Left (Both x (Left b)))) ≡ sees at_generics m
 

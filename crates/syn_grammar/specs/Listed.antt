@@ -1,4 +1,4 @@
--- WHAT A FILE LISTS: the kind of each of its items, and its name.
+-- THE LIST OF A FILE: the kind and the name of each of its items.
 use Rattle.std.specs.Prelude.{◌≡◌, ℕ, zero, suc, Bool, true, false, List, [], ◌∷◌, ◌++◌, Option, Some, None, nat_eq}
 use Rattle.syn_grammar.specs.Words.{Text, w_const, w_crate, w_enum, w_fn, w_mod, w_mut, w_static, w_struct, w_trait, w_type, w_union}
 use Rattle.syn_grammar.specs.Tokens.{Span, Leaf, ident, Stream, end, leaf, punct, group, pick, same_text, ended}
@@ -11,17 +11,17 @@ use Rattle.syn_grammar.specs.Take.{sees}
 use Rattle.syn_grammar.specs.Run.{parse_rule}
 use Rattle.syn_grammar.specs.EntryPoints.{IsKind}
 
--- an identifier, and where it stands
+-- an identifier and its span
 abbrev pub Name : Type 0
 Name = Text × Span
 
--- a kind of items, by its rule, and the name, where there is one
+-- a kind of items, as its rule, and the name, if it has one
 abbrev pub Listed : Type 0
 Listed = Rule × Option Name
 
--- WHERE A NAME STANDS IN A TREE
+-- THE PLACE OF A NAME IN A TREE
 
--- of a sequence: its first part, and what stands behind it
+-- of a sequence: its first part, and the parts after it
 abbrev pub first_part : Syntax → Syntax
 first_part (Both s t) = s
 first_part _ = Nothing
@@ -30,37 +30,37 @@ abbrev pub other_parts : Syntax → Syntax
 other_parts (Both s t) = t
 other_parts _ = Nothing
 
--- behind so many parts of a sequence
+-- the rest of a sequence after this many parts
 abbrev pub behind_parts : ℕ → Syntax → Syntax
 behind_parts zero s = s
 behind_parts (suc n) s = behind_parts n (other_parts s)
 
--- a rule's tree is that of its form
+-- a rule's tree without its Node
 abbrev pub of_rule : Syntax → Syntax
 of_rule (Node s) = s
 of_rule _ = Nothing
 
--- what a choice read
+-- the tree of a choice, without the side
 abbrev pub of_choice : Syntax → Syntax
 of_choice (Left s) = s
 of_choice (Right s) = s
 of_choice _ = Nothing
 
--- the identifier that a token is
+-- the identifier of a token
 abbrev pub token_name : Syntax → Option Name
 token_name (Token (ident x) sp) = Some (x, sp)
 token_name _ = None
 
--- the part of a sequence behind so many others, as an identifier
+-- the part of a sequence after this many others, as an identifier
 abbrev pub name_behind : ℕ → Syntax → Option Name
 name_behind n s = token_name (first_part (behind_parts n s))
 
--- what stands behind an item's attributes, of the rule that reads it
+-- the part after an item's attributes, without the Node of its rule
 abbrev pub behind_attributes : Syntax → Syntax
 behind_attributes s = of_rule (other_parts s)
 
--- THE NAME OF AN ITEM of this kind, by what stands behind its attributes: the part of its rule that is its name. An impl, a use, a
--- foreign module and what is kept as tokens have none.
+-- THE NAME OF AN ITEM of this kind, from the part after its attributes: the part of its rule that is its name. An impl, a use, a
+-- foreign module and verbatim items have none.
 abbrev pub name_in : Rule → Syntax → Option Name
 name_in structure s = name_behind 2 s
 name_in enumeration s = name_behind 2 s
@@ -76,7 +76,7 @@ name_in function s = name_behind 1 (of_rule (behind_parts 4 (of_rule (first_part
 name_in macro_as_item s = token_name (of_choice (first_part (behind_parts 2 (of_rule (of_choice s)))))
 name_in _ s = None
 
--- what an item of this kind is listed as
+-- the list entry of an item of this kind
 abbrev pub listed_as : Rule → Syntax → Listed
 listed_as k s = (k, name_in k (behind_attributes s))
 
@@ -90,21 +90,21 @@ abbrev pub listed_items : Syntax → List Listed
 listed_items (Node (Right (Both s t))) = listed_item s ∷ listed_items t
 listed_items _ = []
 
--- those of a file's items, which stand behind its first line, its frontmatter and its inner attributes
+-- those of a file's items, which follow its first line, its frontmatter and its inner attributes
 abbrev pub listed : Syntax → List Listed
 listed s = listed_items (behind_parts 3 (of_rule s))
 
--- A FILE LISTS THESE: it is derived as a tree whose items they are.
+-- A FILE HAS THIS LIST: it is derived as a tree whose items have these kinds and names.
 abbrev pub FileLists : Stream → List Listed → Type 0
 FileLists ts l = (tree : Syntax) × Derives file ts tree × (listed tree ≡ l)
 
--- These are listed of a stream so far, and this is left: whatever items are derived of the rest, a file is derived of the stream, and they
--- are listed behind these; and where a file is derived of the stream, items are of the rest.
+-- The list of a stream up to this rest: if items are derived of the rest, a file is derived of the stream, and its list is this list
+-- followed by theirs; and if a file is derived of the stream, items are derived of the rest.
 pub record ListedSoFar (ts : Stream) (l : List Listed) (m : Stream) : Type 0 where
   pub onward : (t : Syntax) → Derives items m t → (tree : Syntax) × Derives file ts tree × (listed tree ≡ l ++ listed_items t)
   pub back : (tree : Syntax) → Derives file ts tree → (t : Syntax) × Derives items m t
 
--- WHERE IT STANDS AMONG THE TOKENS: behind a word or a `!`, the first that stands in no group
+-- THE PLACE OF A NAME AMONG THE TOKENS: after a word or a `!`, the first one that is in no group
 
 pub data Marker : Type 0 where
   a_word : Text → Marker
@@ -118,19 +118,19 @@ abbrev pub marks_char : Marker → ℕ → Bool
 marks_char a_bang c = nat_eq c 33
 marks_char (a_word w) c = false
 
--- what stands behind the first marker; nothing where there is none
+-- the tokens after the first marker; none if there is no marker
 abbrev pub past : Marker → Stream → Stream
 past m end = end
 past m (leaf x sp r) = pick (marks_leaf m x) r (past m r)
 past m (punct c j sp r) = pick (marks_char m c) r (past m r)
 past m (group d o c i r) = past m r
 
--- the identifier that stands next
+-- the identifier that is next
 abbrev pub name_next : Stream → Option Name
 name_next (leaf (ident x) sp r) = Some (x, sp)
 name_next _ = None
 
--- past `mut`, where it stands next
+-- past `mut`, if it is next
 abbrev pub past_mut : Stream → Stream
 past_mut (leaf (ident x) sp r) = pick (same_text x w_mut) r (leaf (ident x) sp r)
 past_mut ts = ts
@@ -154,26 +154,26 @@ name_ahead function ts = name_past w_fn ts
 name_ahead macro_as_item ts = name_next (past a_bang ts)
 name_ahead _ ts = None
 
--- The name of an item stands there. Holds of every stream.
+-- The name of an item is at this place. Holds for every stream.
 abbrev pub NamesStandAhead : Type 0
 NamesStandAhead = (k : Rule) (ts : Stream) (s : Syntax) (r : Stream) → IsKind item k → DerivesPrefix table (rule k) (Node s) ts r → name_in k (behind_attributes s) ≡ name_ahead k ts
 
--- A FILE IS LISTED ITEM BY ITEM. Hold of every stream.
+-- A FILE'S LIST IS BUILT ITEM BY ITEM. Hold for every stream.
 
--- Behind inner attributes nothing is listed so far.
+-- After inner attributes the list is empty.
 abbrev pub ListingBegins : Type 0
 ListingBegins = (ts : Stream) (a : Syntax) (m : Stream) → parse_rule inner_attributes ts ≡ Some (a, m) → ListedSoFar ts [] m
 
--- Where the rule of a kind reads an item, it is listed by this kind, and by the name that stands ahead.
+-- If the rule of a kind reads an item, the list grows by this kind and the name at its place among the tokens.
 abbrev pub ListingGoesOn : Type 0
 ListingGoesOn = (ts : Stream) (l : List Listed) (m : Stream) (k : Rule) (s : Syntax) (r : Stream) → ListedSoFar ts l m → sees ended m ≡ false → IsKind item k →
     parse_rule k m ≡ Some (s, r) → ListedSoFar ts (l ++ (k, name_ahead k m) ∷ []) r
 
--- Where nothing is left, all is listed.
+-- If no tokens are left, the list is complete.
 abbrev pub ListingEnds : Type 0
 ListingEnds = (ts : Stream) (l : List Listed) (m : Stream) → ListedSoFar ts l m → sees ended m ≡ true → FileLists ts l
 
--- Where something is left and no item is read, no file is derived; nor where inner attributes are refused.
+-- If tokens are left and no item is read, no file is derived; neither if inner attributes are refused.
 abbrev pub ListingRefused : Type 0
 ListingRefused = ((ts : Stream) (l : List Listed) (m : Stream) → ListedSoFar ts l m → sees ended m ≡ false → parse_rule item m ≡ None → Refused file ts)
     × ((ts : Stream) → parse_rule inner_attributes ts ≡ None → Refused file ts)

@@ -10,7 +10,7 @@ use Rattle.syn_grammar.specs.Run.{parse_rule}
 use Rattle.syn_grammar.specs.Plan.{Plan, reads, turns, keeps, ends, done, fails, run_plan, show_plan, shown_out, Marked}
 use Rattle.syn_grammar.specs.ItemPlan.{parts, item_of, absent, hidden, inherited, kept_end, item_plan}
 
--- a member of a kind of its own, whose parts stand in one sequence
+-- a member of a kind of its own, whose parts form one sequence
 abbrev pub member_of : Rule → List Syntax → Syntax
 member_of k l = Node (Case k (parts l))
 
@@ -18,27 +18,27 @@ member_of k l = Node (Case k (parts l))
 abbrev pub no_clause : Syntax
 no_clause = Node (Vanishing false absent)
 
--- Behind `const` a function goes on, or a signature without `const` begins: `async`, `unsafe`, `extern` or `fn` stands next.
+-- The next token continues a signature after `const`: `async`, `unsafe`, `extern` or `fn`.
 abbrev pub at_function : Look
 at_function = at_word w_async or_else at_word w_unsafe or_else at_extern or_else at_word w_fn
 
--- The rest of a signature behind `const`, and what follows it.
+-- The rest of a signature after `const`, and the part after the signature.
 unfoldable pub function_after_const : (Syntax → Plan) → Syntax → Plan
 function_after_const f c =
     reads (optional_item_word w_async) λ y. reads (rule unsafe_only) λ u. reads (when at_extern then rule abi else empty) λ e. reads (rule signature_rest) λ s. f (Node (parts (c ∷ y ∷ u ∷ e ∷ s ∷ [])))
 
--- A constant that is kept as tokens, behind `const`.
+-- A constant that is stored verbatim, after `const`.
 unfoldable pub kept_const : Plan
 kept_const =
     reads name_or_underscore λ n. reads (when at_less then kept_generics else empty) λ g. reads (punctuation colon) λ c. reads (rule type) λ t. reads optional_value λ e. reads optional_where_clause λ w. kept_end
 
--- A function that is kept as tokens, behind its signature: `;` or a body.
+-- A function that is stored verbatim, after its signature: `;` or a body.
 unfoldable pub kept_function : Syntax → Plan
 kept_function s =
     turns at_semicolon kept_end
     (reads (rule body) λ b. done)
 
--- A member of a trait behind a visibility or `default`, which is kept as tokens.
+-- A member of a trait after a visibility or `default`; it is stored verbatim.
 unfoldable pub marked_plan : Plan
 marked_plan =
     turns (at_word w_type) (reads (plainly (word w_type)) λ k. reads (plainly name) λ n. reads (rule generics) λ g. reads (vanishing false at_colon (punctuation colon & rule type_bounds)) λ b. reads optional_type λ t. reads (rule where_clause) λ w. kept_end)
@@ -47,13 +47,13 @@ marked_plan =
     kept_const)
     (reads (rule signature) λ s. kept_function s))
 
--- A function of a trait, behind its signature.
+-- A function of a trait, after its signature.
 unfoldable pub trait_function_end : Syntax → Syntax → Plan
 trait_function_end a s =
     turns at_semicolon (reads (punctuation semicolon) λ z. ends (item_of trait_function a (parts (hidden ∷ s ∷ Left z ∷ []))))
     (reads (rule body) λ b. ends (item_of trait_function a (parts (hidden ∷ s ∷ Right (Both hidden b) ∷ []))))
 
--- A constant of a trait, behind `const`: with generics or a where clause it is kept as tokens.
+-- A constant of a trait, after `const`: it is stored verbatim if it has generics or a where clause.
 unfoldable pub trait_const_plan : Syntax → Syntax → Plan
 trait_const_plan a k =
     reads name_or_underscore λ n.
@@ -81,13 +81,13 @@ trait_item_plan =
     (turns at_no_trait_macro fails
     (reads (rule module_path) λ p. reads (when at_bang then asking_punctuation exclamation else never) λ x. reads (rule macro_end) λ g. ends (member_of trait_macro_as_item (a ∷ Right (Node (parts (p ∷ x ∷ g ∷ []))) ∷ [])))))))))
 
--- A function of an impl, behind its signature: without a body it is kept as tokens.
+-- A function of an impl, after its signature: it is stored verbatim if it has no body.
 unfoldable pub impl_function_end : Syntax → Syntax → Syntax → Syntax → Plan
 impl_function_end a v d s =
     turns at_semicolon (keeps kept_end)
     (reads (rule body) λ b. ends (member_of impl_function (a ∷ v ∷ d ∷ s ∷ b ∷ [])))
 
--- A constant of an impl, behind `const`: with generics, with a where clause or without a value it is kept as tokens.
+-- A constant of an impl, after `const`: it is stored verbatim if it has generics or a where clause, or no value.
 unfoldable pub impl_const_plan : Syntax → Syntax → Syntax → Syntax → Plan
 impl_const_plan a v d k =
     reads name_or_underscore λ n.
@@ -98,7 +98,7 @@ impl_const_plan a v d k =
     (keeps (reads kept_where_clause λ w. kept_end)))
     (keeps (reads optional_where_clause λ w. kept_end)))
 
--- A type of an impl: without `=` behind its generics it is kept as tokens.
+-- A type of an impl: it is stored verbatim if no `=` follows its generics.
 unfoldable pub impl_type_plan : Syntax → Syntax → Syntax → Plan
 impl_type_plan a v d =
     reads (plainly (word w_type)) λ k. reads (plainly name) λ n. reads (rule generics) λ g.
@@ -113,7 +113,7 @@ impl_const_or_function a v d =
     turns at_function (function_after_const (impl_function_end a v d) (Left c))
     (impl_const_plan a v d c)
 
--- A member of an impl that is no macro, behind its visibility and `default`.
+-- A member of an impl that is no macro, after its visibility and `default`.
 unfoldable pub impl_member_plan : Syntax → Syntax → Syntax → Plan
 impl_member_plan a v d =
     turns (at_word w_type) (impl_type_plan a v d)
@@ -138,20 +138,20 @@ impl_item_plan =
     (turns at_function (reads (rule signature) λ s. impl_function_end a inherited absent s)
     (impl_macro_plan a)))))
 
--- A foreign function, behind its signature: with a body it is kept as tokens.
+-- A foreign function, after its signature: it is stored verbatim if it has a body.
 unfoldable pub foreign_function_end : Syntax → Syntax → Syntax → Plan
 foreign_function_end a v s =
     turns at_semicolon (reads (punctuation semicolon) λ z. ends (member_of foreign_function (a ∷ v ∷ hidden ∷ s ∷ z ∷ [])))
     (keeps (reads (rule body) λ b. done))
 
--- A foreign static, behind `safe` or `unsafe`: with a value it is kept as tokens.
+-- A foreign static, after `safe` or `unsafe`: it is stored verbatim if it has a value.
 unfoldable pub foreign_static_plan : Syntax → Syntax → Syntax → Plan
 foreign_static_plan a v f =
     reads (plainly (word w_static)) λ k. reads (optional w_mut) λ u. reads (plainly name) λ n. reads (punctuation colon) λ c. reads (rule type) λ t.
     turns at_semicolon (reads (punctuation semicolon) λ z. ends (member_of foreign_static (a ∷ v ∷ Node (parts (f ∷ k ∷ u ∷ n ∷ c ∷ t ∷ [])) ∷ z ∷ [])))
     (keeps (reads (punctuation equals) λ q. reads (rule whole_expression) λ e. kept_end))
 
--- A foreign type: with a colon or with `=` it is kept as tokens.
+-- A foreign type: it is stored verbatim if it has a colon or `=`.
 unfoldable pub foreign_type_plan : Syntax → Syntax → Plan
 foreign_type_plan a v =
     reads (plainly (word w_type)) λ k. reads (plainly name) λ n. reads (rule generics) λ g.
@@ -169,7 +169,7 @@ safety_plan a v =
     turns (at_word w_static) (foreign_static_plan a v f)
     (reads (when at_extern then rule abi else empty) λ e. reads (rule signature_rest) λ s. foreign_function_end a v (Node (parts (absent ∷ absent ∷ f ∷ e ∷ s ∷ []))))
 
--- A foreign member behind its visibility that doesn't begin with `safe`, or what else may stand.
+-- A foreign member after its visibility that doesn't begin with `safe`, or this other plan.
 unfoldable pub foreign_member_plan : Syntax → Syntax → Plan → Plan
 foreign_member_plan a v m =
     turns (at_word w_type) (foreign_type_plan a v)
@@ -196,7 +196,7 @@ foreign_item_plan =
     (safety_plan a inherited)))
     (foreign_member_plan a inherited (foreign_macro_plan a)))
 
--- The plans read what the rules read, with the same value. Hold of every stream.
+-- The plans read exactly what the rules read, with the same values. Hold for every stream.
 abbrev pub TraitItemPlan : Type 0
 TraitItemPlan = (ts : Stream) → parse_rule trait_item ts ≡ run_plan trait_item_plan kept_trait_item ts ts
 
@@ -206,11 +206,11 @@ ImplItemPlan = (ts : Stream) → parse_rule impl_item ts ≡ run_plan impl_item_
 abbrev pub ForeignItemPlan : Type 0
 ForeignItemPlan = (ts : Stream) → parse_rule foreign_item ts ≡ run_plan foreign_item_plan kept_foreign_item ts ts
 
--- In the four plans, what is behind `keeps` is kept as tokens or refused, and what isn't behind it is of a kind or refused.
+-- In the four plans, every end after `keeps` is verbatim or refuses, and every other end is of a kind or refuses.
 abbrev pub PlansMarked : Type 0
 PlansMarked = Marked false item_plan × (Marked false trait_item_plan × (Marked false impl_item_plan × Marked false foreign_item_plan))
 
--- What is written by these plans is what is shown of what the rules read. Holds of every stream.
+-- These plans write exactly the tokens (`show`) of the values that the rules read. Holds for every stream.
 abbrev pub PlansShow : Type 0
 PlansShow = (ts : Stream) →
     (show_plan item_plan ts end ts ≡ shown_out (parse_rule item ts)) × ((show_plan trait_item_plan ts end ts ≡ shown_out (parse_rule trait_item ts))

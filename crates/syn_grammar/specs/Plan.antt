@@ -1,5 +1,5 @@
--- PLANS: one reading of a union, without a union in it. A plan reads what the alternatives have in common once, goes on by what stands next
--- (or by a test of what was read), and says where it is known that what is read is kept as tokens. No piece is read twice.
+-- PLANS: a deterministic way to read a union. A plan reads the common parts of the alternatives once, branches on the next token
+-- (or on a test of a value that was read), and marks where it is decided that the tokens are stored verbatim. It reads no part twice.
 use Rattle.std.specs.Prelude.{◌≡◌, Bool, true, false, Option, Some, None}
 use Rattle.syn_grammar.specs.Tokens.{Stream, ◌⧺◌, pick, Look}
 use Rattle.syn_grammar.specs.Rules.{Rule}
@@ -8,15 +8,15 @@ use Rattle.syn_grammar.specs.Take.{Out, sees, before}
 use Rattle.syn_grammar.specs.Run.{parse_form}
 
 pub data Plan : Type 0 where
-  reads : Grammar → (Syntax → Plan) → Plan  -- reads this form; what follows may use the value that it read
-  turns : Look → Plan → Plan → Plan  -- goes on as the first where the look holds of what stands next, else as the second
-  tests : Test → Syntax → Plan → Plan → Plan  -- goes on as the first where this value passes the test, else as the second
-  keeps : Plan → Plan  -- from here on it is known that all that is read, from the beginning, is kept as tokens
-  ends : Syntax → Plan  -- the end, of what has a kind of its own: its value
-  done : Plan  -- the end, of what is kept as tokens
-  fails : Plan  -- nothing is read
+  reads : Grammar → (Syntax → Plan) → Plan  -- reads this form; the rest of the plan may use the value
+  turns : Look → Plan → Plan → Plan  -- a branch: continues with the first plan if the look holds of the next token, else with the second
+  tests : Test → Syntax → Plan → Plan → Plan  -- a branch: continues with the first plan if this value passes the test, else with the second
+  keeps : Plan → Plan  -- from here on it is decided that all tokens read, from the beginning, are stored verbatim
+  ends : Syntax → Plan  -- the end, for a form with a kind of its own, with its value
+  done : Plan  -- the end, for a form that is stored verbatim
+  fails : Plan  -- refuses
 
--- a piece, and then what follows it
+-- one part, then a function of its value and rest
 abbrev pub follow : (Syntax → Stream → Out) → Out → Out
 follow f (Some p) = f p.0 p.1
 follow f None = None
@@ -25,11 +25,11 @@ abbrev pub by_test : Bool → Out → Out → Out
 by_test true p q = p
 by_test false p q = q
 
--- what is kept as tokens: those from the one stream to the other, as a member of a union that is of this rule
+-- the value of a form that is stored verbatim: the tokens from the one stream to the other, as a member of a union, by this rule
 abbrev pub kept_as : Rule → Stream → Stream → Syntax
 kept_as k ts r = Node (Case k (Captured Nothing (before ts r)))
 
--- WHAT A PLAN READS: the rule of what it keeps as tokens, the stream where all began, and the stream that is left
+-- WHAT A PLAN READS, given the rule of its verbatim members, the stream at the plan's start, and the current stream
 abbrev pub run_plan : Plan → Rule → Stream → Stream → Out
 run_plan (reads g f) k ts m = follow (λ s r. run_plan (f s) k ts r) (parse_form g m)
 run_plan (turns c p q) k ts m = by_test (sees c m) (run_plan p k ts m) (run_plan q k ts m)
@@ -39,8 +39,8 @@ run_plan (ends s) k ts m = Some (s, m)
 run_plan done k ts m = Some (kept_as k ts m, m)
 run_plan fails k ts m = None
 
--- WHAT IS WRITTEN of what a plan reads, by who copies tokens: what is shown of each piece, behind what was written before; and where all is
--- kept as tokens, in its place what stood there from the beginning, with its spacing
+-- WHAT A PLAN WRITES when the tokens are copied: the tokens (`show`) of each part, appended to the output so far; and where all is stored
+-- verbatim, instead of that the original tokens from the beginning, with their spacing
 abbrev pub follow_shown : (Syntax → Stream → Option (Stream × Stream)) → Out → Option (Stream × Stream)
 follow_shown f (Some p) = f p.0 p.1
 follow_shown f None = None
@@ -54,12 +54,12 @@ show_plan (ends s) ts w m = Some (w, m)
 show_plan done ts w m = Some (before ts m, m)
 show_plan fails ts w m = None
 
--- what is shown of an answer, and what is left
+-- the tokens of the value, and the rest
 abbrev pub shown_out : Out → Option (Stream × Stream)
 shown_out (Some p) = Some (show p.0, p.1)
 shown_out None = None
 
--- WHERE THE MARKS STAND: behind `keeps` a plan ends with what is kept as tokens alone, or with nothing; and nowhere else
+-- THE PLACE OF `keeps`: after `keeps` a plan ends verbatim (`done`) or refuses; without `keeps` it never ends verbatim
 abbrev pub Marked : Bool → Plan → Type 0
 Marked b (reads g f) = (s : Syntax) → Marked b (f s)
 Marked b (turns c p q) = Marked b p × Marked b q

@@ -1,4 +1,4 @@
--- Equality that forgets spans, as tests: of streams and of syntax trees.
+-- Equality up to spans, as tests: of streams and of syntax trees.
 use Rattle.std.specs.Prelude.{◌≡◌, ◌↔◌, ℕ, Bool, true, false, List, [], ◌∷◌, nat_eq}
 use Rattle.syn_grammar.specs.Tokens.{Span, Delimiter, LitKind, Leaf, ident, literal, Stream, end, leaf, punct, group, plain, and, no, delimiter_number, kind_number, same_text}
 use Rattle.syn_grammar.specs.RuleNumbers.{same_rule}
@@ -61,7 +61,7 @@ same_syntax (More j a sp b) (More k c sq d) = and (same_bool j k) (and (same_syn
 same_syntax (Order xs a ys) (Order zs b ws) = and (same_mark xs zs) (and (same_syntax a b) (same_mark ys ws))
 same_syntax _ _ = false
 
--- two streams pass the test exactly where they are equal with every span 0 to 0
+-- two streams pass the test if and only if they are equal with every span 0 to 0
 abbrev pub SameStreamsArePlain : Type 0
 SameStreamsArePlain = (a b : Stream) → (same_stream a b ≡ true) ↔ (plain a ≡ plain b)
 

@@ -1,4 +1,4 @@
--- HOW THE VALUE OF A FORM IS BUILT: the names of the shapes (specs/Values.antt says what they do).
+-- HOW THE VALUE OF A FORM IS BUILT: the names of the shapes (specs/Values.antt defines them).
 use Rattle.std.specs.Prelude.{◌≡◌, ℕ, zero, suc, ◌==◌, Bool, List, [], ◌∷◌, nat_eq, cond, refl}
 use Rattle.std.proofs.Common.{ap}
 use Rattle.syn_grammar.specs.Tokens.{and}
@@ -12,27 +12,27 @@ pub data Shape : Type 0 where
   expr : Variant → Shape
   -- of forms that read an expression, or a part of one
   operand : Variant → Shape  -- an expression without attributes
-  bracketed : Shape  -- the same of parentheses or brackets: what they hold tells the variant
-  behind_it : Variant → Shape  -- what stands behind an expression and makes one of this variant of both: a call's arguments, `?` and the like
+  bracketed : Shape  -- the same of parentheses or brackets: their content decides the variant
+  behind_it : Variant → Shape  -- a part after an expression that forms this variant with it: a call's arguments, `?` and the like
   operator : Variant → Shape  -- the same: an operator with its right operand, `as` with its type
   dotted : Shape  -- the same: `.` and a field or a method's call
-  fields : Shape  -- the braces of a struct literal, behind its path
+  fields : Shape  -- the braces of a struct literal, after its path
   choice : Shape  -- one of several
-  chain : Shape  -- an expression, and what makes new ones of it
+  chain : Shape  -- an expression with postfixes or operators
   leading : Shape  -- attributes, and the expression that they belong to
-  labelled : Shape  -- a label or none, and the expression that it belongs to
+  labelled : Shape  -- an optional label, and the expression that it belongs to
   -- statements
   attributed : Shape  -- attributes, and the statement that they belong to
   listed : Shape  -- the same and the statements after it; of values: a statement, and those after it
   lone : Shape  -- `;` alone, and the statements after it
-  said : Shape  -- an expression and what follows it; of values: an expression, and `;` or not
-  said_macro : Shape  -- the same of a macro with braces; of values: a macro's attributes, the macro, and `;` or not
+  said : Shape  -- an expression and the part after it; of values: an expression, and an optional `;`
+  said_macro : Shape  -- the same of a macro with braces; of values: a macro's attributes, the macro, and an optional `;`
   a_local an_item : Shape
-  single : Shape  -- a statement alone
-  untagged : Shape  -- what was read, without saying by which of two forms
-  -- lists with something behind them
-  parameters : Shape  -- of a function: its parameters, and the variadic one or none
-  based : Shape  -- of a struct literal: its fields, and `..` with an expression or neither
+  single : Shape  -- a single statement
+  untagged : Shape  -- the tree of one of two forms, without the choice
+  -- lists with a part after them
+  parameters : Shape  -- of a function: its parameters, and an optional variadic one
+  based : Shape  -- of a struct literal: its fields, and an optional `..` with an expression
 
 abbrev pub variants : List Variant
 variants = Array ∷ Assign ∷ Binary ∷ Block ∷ Break ∷ Call ∷ Cast ∷ Continue ∷ Field ∷ ForLoop ∷ Grouped ∷ If ∷ Index ∷ Lit ∷ Loop ∷ Macro ∷ MethodCall ∷ Parens ∷ Path ∷ Reference ∷ Repeat ∷ Return ∷ Struct ∷ Try ∷ Tuple ∷ Unary ∷ Unsafe ∷ Verbatim ∷ While ∷ []

@@ -1,4 +1,4 @@
--- THE PLANS OF STATEMENTS: their attributes are read once, and what stands next then says whether an item follows.
+-- THE PLANS OF STATEMENTS: they read the attributes once; then the next token decides whether an item follows.
 use Rattle.std.specs.Prelude.{◌≡◌, false, [], ◌∷◌}
 use Rattle.syn_grammar.specs.Words.{w_let, w_try, semicolon, exclamation}
 use Rattle.syn_grammar.specs.Tokens.{Stream, Brace, at_word, ended}
@@ -14,7 +14,7 @@ use Rattle.syn_grammar.specs.Plan.{Plan, reads, turns, ends, fails, follow, by_t
 use Rattle.syn_grammar.specs.ItemPlan.{parts, item_behind}
 use Rattle.syn_grammar.specs.ItemStatements.{item_statement, item_listed}
 
--- A statement alone that is no item, behind its attributes.
+-- A single statement that is no item, after its attributes.
 abbrev pub other_statement : Grammar
 other_statement =
     when at_crate_macro then rule crate_macro
@@ -23,40 +23,40 @@ other_statement =
     else when at_block_like then shaped said (rule block_like & rule statement_end)
     else shaped said (rule whole_expression & punctuation semicolon)
 
--- its value, of that of its attributes and that of what stands behind them
+-- the value of such a statement, from the values of its attributes and of the rest
 abbrev pub of_other : Syntax → Syntax → Syntax
 of_other a s = Node (core (stated (Both a s)))
 
--- and a list that begins with it, of the value of what `statement_rest` reads
+-- and of a list that begins with it, from the value that `statement_rest` reads
 abbrev pub other_listed : Syntax → Syntax → Syntax
 other_listed a s = Node (Right (core (in_list (Both a (Right s)))))
 
--- A statement is its attributes, and what stands behind them: an item, read by its plan, where an item stands next, and else another
--- statement. Holds of every stream.
+-- A statement is its attributes, and after them an item, read by its plan, if an item is next, else another statement. Holds of
+-- every stream.
 abbrev pub StatementPlan : Type 0
 StatementPlan = (ts : Stream) → parse_rule statement ts ≡
     follow (λ a m. by_test (sees at_item m) (wrap item_statement (run_plan (item_behind a) kept_item ts m)) (wrap (of_other a) (parse_form other_statement m))) (parse_rule attributes ts)
 
--- So are statements, where they don't end and no `;` stands next. Holds of every stream.
+-- The same for a list of statements that is not at its end and has no `;` next. Holds for every stream.
 abbrev pub StatementsPlan : Type 0
 StatementsPlan = (ts : Stream) → sees ended ts ≡ false → sees at_semicolon ts ≡ false → parse_rule statements ts ≡
     follow (λ a m. by_test (sees at_item m) (wrap item_listed (and_then (run_plan (item_behind a) kept_item ts m) (parse_rule statements))) (wrap (other_listed a) (parse_rule statement_rest m))) (parse_rule attributes ts)
 
--- the value of an item, of the parts of its macro
+-- the value of an item, from the parts of its macro
 abbrev pub crate_item : Syntax → Syntax
 crate_item s = Node (Shaped an_item (Both (Node (Case macro_as_item_rest (Right (Node s)))) (Left Nothing)))
 
--- and of a statement, with what stands behind it
+-- and of a statement, with the value of the part after the macro
 abbrev pub crate_statement : Syntax → Syntax → Syntax
 crate_statement s z = Node (Shaped said_macro (Both (new Macro (Node s)) (Right z)))
 
--- A macro of `crate` in braces as a statement, by what stands behind it.
+-- A macro of `crate` in braces as a statement, by the token after it.
 unfoldable pub crate_statement_end : Syntax → Syntax → Syntax → Plan
 crate_statement_end p x b =
     turns at_postfix_mark fails
     (reads (rule statement_end) λ z. ends (crate_statement (parts (p ∷ x ∷ Right (Right b) ∷ [])) z))
 
--- A macro of `crate` as a statement alone, or as an item: its path and `!` are read once, and behind its braces what goes on an expression tells.
+-- A macro of `crate` as a single statement, or as an item: its path and `!` are read once; a postfix mark after the braces makes it an item.
 unfoldable pub crate_macro_plan : Plan
 crate_macro_plan =
     turns at_no_macro_item (reads (rule module_path) λ p. reads (when at_bang then asking_punctuation exclamation else never) λ x.
@@ -70,6 +70,6 @@ crate_macro_plan =
     turns at_postfix_mark (ends (crate_item (parts (p ∷ x ∷ n ∷ g ∷ []))))
     fails))
 
--- The plan reads what the rule reads, with the same value. (It keeps nothing, so any rule may stand for what is kept.) Holds of every stream.
+-- The plan reads exactly what the rule reads, with the same value. (It stores nothing verbatim, so the rule given is arbitrary.) Holds for every stream.
 abbrev pub CrateMacroPlan : Type 0
 CrateMacroPlan = (ts : Stream) → parse_rule crate_macro ts ≡ run_plan crate_macro_plan kept_item ts ts

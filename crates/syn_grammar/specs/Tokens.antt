@@ -1,13 +1,13 @@
--- TOKEN STREAMS, what stands at the front of one, and looks: the conditions of the lookahead.
+-- TOKEN STREAMS, their lookahead, and looks: conditions on the lookahead.
 use Rattle.std.specs.Prelude.{ℕ, suc, ◌+◌, Bool, true, false, List, [], ◌∷◌, ◌++◌, nat_eq}
 use Rattle.syn_grammar.specs.Words.{Text, keywords, contextual, w_const, w_crate, w_self, w_Self_type, w_super, w_in, w_mut, w_as, w_try, w_static, w_async, w_unsafe, w_extern, w_fn, w_move, w_union, w_auto, w_default, w_trait, w_impl, bar, equals, exclamation, not_equals, colon, colons, lifetime_mark, less, less_equals, greater, pound, long_marks}
 
--- where a token stands in the text, in bytes: from its first byte to the one behind its last
+-- a range of bytes in the text: from a token's first byte to the byte after its last
 pub record Span : Type 0 where
   pub start : ℕ
   pub stop : ℕ
 
--- the span of what was not read from a text
+-- the span of tokens that were not read from a text
 abbrev pub call_site : Span
 call_site = record { start = 0; stop = 0 }
 
@@ -18,19 +18,19 @@ pub data Delimiter : Type 0 where
 pub data LitKind : Type 0 where
   Str ByteStr CStr Byte Char Int Float : LitKind
 
--- an identifier by its text, or a literal by its kind and text
+-- an identifier with its text, or a literal with its kind and text
 pub data Leaf : Type 0 where
   ident : Text → Leaf
   literal : LitKind → Text → Leaf
 
--- A token stream: each token tree, and what follows it. One type holds trees and lists of trees, so that every induction is short.
+-- A token stream: each token tree, and what follows it. One type represents both trees and lists of trees, which keeps every induction short.
 pub data Stream : Type 0 where
   end : Stream
   leaf : Leaf → Span → Stream → Stream  -- an identifier or a literal
   punct : ℕ → Bool → Span → Stream → Stream  -- a punctuation character, Joint (true) or Alone (false)
   group : Delimiter → Span → Span → Stream → Stream → Stream  -- a group: the spans of its delimiters, its content, and what follows it
 
--- one stream, and then another
+-- one stream, then another
 infixr 60 ◌⧺◌
 abbrev pub ◌⧺◌ : Stream → Stream → Stream
 end ⧺ r = r
@@ -61,12 +61,12 @@ abbrev pub pick : {X : Type 0} → Bool → X → X → X
 pick true a b = a
 pick false a b = b
 
--- the delimiters have a text
+-- the delimiters have text
 abbrev pub is_visible : Delimiter → Bool
 is_visible None = false
 is_visible _ = true
 
--- a visible stream: no invisible group stands in it, at any depth
+-- a visible stream: it has no invisible group, at any depth
 abbrev pub visible : Stream → Bool
 visible end = true
 visible (leaf x sp m) = visible m
@@ -91,25 +91,25 @@ abbrev pub one_of_texts : Text → List Text → Bool
 one_of_texts x [] = false
 one_of_texts x (y ∷ l) = or (same_text x y) (one_of_texts x l)
 
--- the second begins with the first
+-- the second text begins with the first
 abbrev pub begins_text : Text → Text → Bool
 begins_text [] m = true
 begins_text (x ∷ l) [] = false
 begins_text (x ∷ l) (y ∷ m) = and (nat_eq x y) (begins_text l m)
 
--- THE LOOKAHEAD OF A STREAM: the terminal of its first token tree, and facts of what stands behind or inside it
+-- THE LOOKAHEAD OF A STREAM: the terminal of its first token tree, and facts about the tokens after or inside it
 
--- What the first token tree is.
+-- The kind of the first token tree.
 pub data Terminal : Type 0 where
   Ended : Terminal  -- there is none
-  Name : Terminal  -- an identifier whose text no rule asks for
-  Word : Text → Terminal  -- an identifier whose text some rule asks for
-  Punctuation : Text → Terminal  -- a punctuation character: the longest mark that begins there; of a lifetime `lifetime_mark`
+  Name : Terminal  -- an identifier whose text no rule tests
+  Word : Text → Terminal  -- an identifier whose text some rule tests
+  Punctuation : Text → Terminal  -- a punctuation character: the longest mark that begins there; for a lifetime, `lifetime_mark`
   Literal : LitKind → Terminal
   Delimited : Delimiter → Bool → Terminal  -- a group (true: an invisible one without content)
 
--- Facts: what the lookahead of a stream tells besides its terminal. A token tells something only where `asked` says so, so that the
--- lookahead depends on the next one alone and lookahead stays short.
+-- Facts: the information in a stream's lookahead besides its terminal. A token has a fact only if `asked` lists it, so that the
+-- lookahead depends only on the next token's lookahead, and stays small.
 pub data Fact : Type 0 where
   Before_equals : Fact  -- an identifier: `=` follows it
   Before_end : Fact  -- `crate`, `self` or `super`: nothing follows it
@@ -117,12 +117,12 @@ pub data Fact : Type 0 where
   Before_paren : Fact  -- an identifier: a group in parentheses follows it
   Before_less : Fact  -- an identifier or `::`: `<` follows it
   Before_bang : Fact  -- `#`: `!` follows it
-  Before_type_rest : Fact  -- an identifier: what may go on a type follows it (`::`, `<`, arguments in parentheses, or `as`)
-  Before_own_self : Fact  -- `mut`: `self` follows it, and no `::` behind that
+  Before_type_rest : Fact  -- an identifier: a token that may continue a type follows it (`::`, `<`, arguments in parentheses, or `as`)
+  Before_own_self : Fact  -- `mut`: `self` follows it, without a `::` after that
   Before_parameter : Fact  -- `<`: `>` or a parameter of generics follows it
-  Begins_item : Fact  -- a word that begins an item in a block only with what follows it
-  Not_item : Fact  -- a word that begins no item in a block because of what follows it
-  Bang_brace : Fact  -- a path or `!`: `!` and a group in braces follow the path, or this group follows `!`
+  Begins_item : Fact  -- a word that begins an item in a block only because of the tokens after it
+  Not_item : Fact  -- a word that begins no item in a block because of the tokens after it
+  Bang_brace : Fact  -- a path or `!`: `!` and a group in braces follow the path, or such a group follows the `!`
   Bang_name : Fact  -- the same with an identifier that isn't a keyword, or `try`, in place of the group
   Before_macro : Fact  -- a path: a `!` that isn't `!=` follows the path
   Lone_word : Fact  -- a group in parentheses: its content is `crate`, `self` or `super` alone
@@ -138,7 +138,7 @@ every_fact =
 -- The lookahead of a stream.
 pub record Lookahead : Type 0 where
   pub terminal : Terminal
-  pub facts : List Fact  -- all that it tells
+  pub facts : List Fact  -- all facts that hold
 
 abbrev pub lookahead_with : Terminal → List Fact → Lookahead
 lookahead_with f l = record { terminal = f; facts = l }
@@ -197,18 +197,18 @@ abbrev pub mem : Terminal → List Terminal → Bool
 mem a [] = false
 mem a (x ∷ l) = or (same_terminal a x) (mem a l)
 
--- LOOKS: conditions on the lookahead of a stream, by which forms choose
+-- LOOKS: conditions on the lookahead of a stream; choices between forms depend on them
 
 pub data Look : Type 0 where
-  ended : Look  -- nothing stands next: the end of the stream or of the group's content
-  at_name : Look  -- an identifier that isn't a keyword stands next
-  at_word : Text → Look  -- the identifier of this text stands next
-  at_mark : Text → Look  -- this mark stands next: its characters, all but the last Joint; the spacing of the last isn't looked at
-  at_literal : LitKind → Look  -- a literal of this kind stands next
-  at_group : Delimiter → Look  -- a group with this delimiter stands next
-  at_empty_group : Look  -- an invisible group without content stands next
-  ahead : Fact → Look  -- the lookahead tells this fact
-  ◌or_else◌ ◌and_also◌ ◌but_not◌ : Look → Look → Look  -- one or the other; both; the first and not the second
+  ended : Look  -- nothing is next: the end of the stream or of the group's content
+  at_name : Look  -- an identifier that isn't a keyword is next
+  at_word : Text → Look  -- the identifier of this text is next
+  at_mark : Text → Look  -- this mark is next: its characters, all but the last Joint; the spacing of the last doesn't matter
+  at_literal : LitKind → Look  -- a literal of this kind is next
+  at_group : Delimiter → Look  -- a group with this delimiter is next
+  at_empty_group : Look  -- an invisible group without content is next
+  ahead : Fact → Look  -- the lookahead has this fact
+  ◌or_else◌ ◌and_also◌ ◌but_not◌ : Look → Look → Look  -- one or the other; both; the first but not the second
 
 infixr 30 ◌or_else◌
 infixr 35 ◌and_also◌
@@ -242,7 +242,7 @@ abbrev pub is_empty_group : Terminal → Bool
 is_empty_group (Delimited e v) = v
 is_empty_group _ = false
 
--- the lookahead meets the look
+-- the lookahead satisfies the look
 abbrev pub answers : Look → Lookahead → Bool
 answers ended f = is_ended f.terminal
 answers at_name f = is_name f.terminal
@@ -258,45 +258,45 @@ answers (a but_not b) f = and (answers a f) (no (answers b f))
 
 -- THE LOOKAHEAD OF A STREAM, from right to left
 
--- what a token asks of the lookahead behind it: each look that this lookahead meets is told as the fact beside it
+-- what a token tests of the lookahead after it: if that lookahead satisfies a look, the token's lookahead has the fact paired with it
 abbrev pub Asked : Type 0
 Asked = List (Look × Fact)
 
--- a lifetime stands next: a `'` that is joined to an identifier
+-- a lifetime is next: a `'` that is joined to an identifier
 abbrev pub at_lifetime : Look
 at_lifetime = at_mark lifetime_mark
 
--- a parameter of generics stands next: `#`, a lifetime, `const`, or an identifier that no type goes on from
+-- a parameter of generics is next: `#`, a lifetime, `const`, or an identifier without a continuation of a type after it
 abbrev pub at_parameter : Look
 at_parameter = at_mark pound or_else at_lifetime or_else at_word w_const or_else at_name but_not ahead Before_type_rest
 
--- generics stand next, in a place where a type may stand too: `<` and then `>` or a parameter (of `<=` and `<<` nothing is told)
+-- generics are next, in a place where a type is possible too: `<` followed by `>` or a parameter (`<=` and `<<` have no facts)
 abbrev pub at_generics : Look
 at_generics = at_mark less and_also ahead Before_parameter
 
--- a word of a path stands next: an identifier that isn't a keyword, `self`, `Self`, `super` or `crate`
+-- a word of a path is next: an identifier that isn't a keyword, `self`, `Self`, `super` or `crate`
 abbrev pub at_path_word : Look
 at_path_word = at_name or_else at_word w_self or_else at_word w_Self_type or_else at_word w_super or_else at_word w_crate
 
--- a path goes on with `::`, or ends before a `!` that isn't `!=`
+-- a path continues with `::`, or ends before a `!` that isn't `!=`
 abbrev pub at_path_rest : Look
 at_path_rest = at_mark colons or_else at_mark exclamation but_not at_mark not_equals
 
--- what stands behind the `!` of a path that goes on so
+-- tests of the token after the `!`, for a path that continues as this look says
 abbrev pub asked_of_path : Look → Asked
 asked_of_path c = (c and_also ahead Bang_brace, Bang_brace) ∷ (c and_also ahead Bang_name, Bang_name) ∷ []
 
--- what a word of a path asks
+-- the tests of a word of a path
 abbrev pub asked_by_path_word : Asked
 asked_by_path_word = (at_mark colons, Before_colons)
     ∷ (at_mark exclamation but_not at_mark not_equals or_else at_mark colons and_also ahead Before_macro, Before_macro) ∷ asked_of_path at_path_rest
 
--- what an identifier that isn't a keyword asks of the token tree behind it
+-- the tests of an identifier that isn't a keyword, on the token tree after it
 abbrev pub asked_by_name : Asked
 asked_by_name = (at_mark equals, Before_equals) ∷ (at_group Paren, Before_paren) ∷ (at_mark less, Before_less)
     ∷ (at_mark colons or_else at_mark less but_not at_mark less_equals or_else at_group Paren or_else at_word w_as, Before_type_rest) ∷ asked_by_path_word
 
--- what identifiers of this text ask
+-- the tests of an identifier of this text
 abbrev pub asked_by_word : Text → Asked
 asked_by_word x = pick (one_of_texts x (w_crate ∷ w_self ∷ w_super ∷ [])) ((ended, Before_end) ∷ asked_by_path_word)
     (pick (same_text x w_Self_type) asked_by_path_word
@@ -310,26 +310,26 @@ asked_by_word x = pick (one_of_texts x (w_crate ∷ w_self ∷ w_super ∷ [])) 
     (pick (same_text x w_default) ((at_word w_unsafe or_else at_word w_impl, Begins_item) ∷ asked_by_name)
     (pick (one_of_texts x contextual) asked_by_name []))))))))))
 
--- what a mark asks by its last character
+-- the tests of a mark, by its last character
 abbrev pub asked_by_mark : Text → Asked
 asked_by_mark x = pick (same_text x exclamation) ((at_group Brace, Bang_brace) ∷ (at_name or_else at_word w_try, Bang_name) ∷ [])
     (pick (same_text x colon) ((at_mark less, Before_less) ∷ (at_path_word and_also ahead Before_macro, Before_macro) ∷ asked_of_path at_path_word)
     (pick (same_text x pound) ((at_mark exclamation, Before_bang) ∷ [])
     (pick (same_text x less) ((at_mark greater or_else at_parameter, Before_parameter) ∷ []) [])))
 
--- what the first token tree asks of what stands behind it: each of these that holds is told
+-- the tests of the first token tree, on the tokens after it
 abbrev pub asked : Terminal → Asked
 asked Name = asked_by_name
 asked (Word x) = asked_by_word x
 asked (Punctuation x) = asked_by_mark x
 asked _ = []
 
--- what a group asks of its content
+-- the tests of a group, on its content
 abbrev pub asked_inside : Delimiter → Asked
 asked_inside Paren = ((at_word w_crate or_else at_word w_self or_else at_word w_super) and_also ahead Before_end, Lone_word) ∷ (at_word w_in, Begins_in) ∷ []
 asked_inside _ = []
 
--- the facts of those looks that the lookahead behind meets
+-- the facts paired with the looks that the next lookahead satisfies
 abbrev pub facts_for : Asked → Lookahead → List Fact
 facts_for [] f = []
 facts_for (p ∷ l) f = pick (answers p.0 f) (p.1 ∷ facts_for l f) (facts_for l f)
@@ -355,27 +355,27 @@ join c Name = before_identifier c
 join c (Word x) = before_identifier c
 join c _ = Punctuation (c ∷ [])
 
--- the terminal of a punctuation character before this terminal
+-- the terminal of a punctuation character that is followed by this terminal
 abbrev pub char_terminal : ℕ → Bool → Terminal → Terminal
 char_terminal c true f = join c f
 char_terminal c false f = Punctuation (c ∷ [])
 
--- of a mark of one character alone
+-- these facts, if the terminal is a mark of one character; else none
 abbrev pub lone_facts : Terminal → List Fact → List Fact
 lone_facts (Punctuation (x ∷ [])) l = l
 lone_facts _ l = []
 
--- a mark of one character tells what stands behind it, and `::` what its second character does
+-- a mark of one character has the facts that its tests yield, and `::` those of its second character
 abbrev pub punctuation_facts : ℕ → Terminal → Lookahead → List Fact
 punctuation_facts c (Punctuation (x ∷ [])) f = facts_for (asked (Punctuation (c ∷ []))) f
 punctuation_facts c (Punctuation (x ∷ y ∷ [])) f = pick (nat_eq c 58) (lone_facts f.terminal f.facts) []
 punctuation_facts c _ f = []
 
--- the lookahead of a punctuation character before this lookahead
+-- the lookahead of a punctuation character that is followed by this lookahead
 abbrev pub punctuation_lookahead : ℕ → Bool → Lookahead → Lookahead
 punctuation_lookahead c j f = lookahead_with (char_terminal c j f.terminal) (punctuation_facts c (char_terminal c j f.terminal) f)
 
--- the delimiters are invisible, and the content that has this terminal is none
+-- the delimiters are invisible, and the content with this terminal is empty
 abbrev pub holds_nothing : Delimiter → Terminal → Bool
 holds_nothing None f = is_ended f
 holds_nothing _ f = false
@@ -391,6 +391,6 @@ lookahead (leaf x sp m) = lookahead_with (leaf_terminal x) (facts_for (asked (le
 lookahead (punct c j sp m) = punctuation_lookahead c j (lookahead m)
 lookahead (group d o c i m) = group_lookahead d (lookahead i)
 
--- the look holds of the lookahead of this stream
+-- the look holds of this stream's lookahead
 abbrev pub stands : Look → Stream → Bool
 stands c ts = answers c (lookahead ts)

@@ -1,4 +1,4 @@
--- WHAT THE TESTS OF PLANS SAY OF TOKENS: who reads by a plan and keeps no values counts words, and looks for marks, among the tokens that were read.
+-- THE TESTS OF PLANS, ON TOKENS: a program that follows a plan without storing values counts words and looks for marks among the tokens read.
 use Rattle.std.specs.Prelude.{◌≡◌, ℕ, Bool, true, false, List, [], ◌∷◌, Some, nat_eq}
 use Rattle.syn_grammar.specs.Words.{Text, w_where, w_use, equals}
 use Rattle.syn_grammar.specs.Tokens.{Leaf, ident, literal, Stream, end, leaf, punct, group, or, and, no, pick, same_text, Brace, Word, mem}
@@ -11,49 +11,49 @@ use Rattle.syn_grammar.specs.Run.{parse_form}
 use Rattle.syn_grammar.specs.Alone.{all_of}
 use Rattle.syn_grammar.specs.ItemPlan.{parts}
 
--- it is the identifier of this text
+-- the token is the identifier of this text
 abbrev pub is_text : Text → Leaf → Bool
 is_text x (ident y) = same_text x y
 is_text x (literal k y) = false
 
--- a `'` that is joined to what stands next: an identifier there is a lifetime's
+-- a `'` that is joined to the next token: if that is an identifier, it belongs to a lifetime
 abbrev pub opens_lifetime : ℕ → Bool → Bool
 opens_lifetime c j = and j (nat_eq c 39)
 
--- the word stands there once at most, groups and lifetimes aside; the first says whether a `'` is joined to what stands next, the second
--- whether the word stood before
+-- the word occurs at most once, not counting groups and lifetimes; q: a `'` is joined to the next token, b: the word
+-- has occurred before
 abbrev pub once_at_most : Text → Bool → Bool → Stream → Bool
 once_at_most x q b end = true
 once_at_most x q b (leaf y sp m) = pick (and (no q) (is_text x y)) (and (no b) (once_at_most x false true m)) (once_at_most x false b m)
 once_at_most x q b (punct c j sp m) = once_at_most x (opens_lifetime c j) b m
 once_at_most x q b (group d o c i m) = once_at_most x false b m
 
--- `where` stands there once at most, groups and lifetimes aside
+-- `where` occurs at most once, not counting groups and lifetimes
 abbrev pub has_one_where : Stream → Bool
 has_one_where i = once_at_most w_where false false i
 
--- in groups, `:` stands before a tree: at the beginning of a group or behind a comma (the first says whether this is such a place)
+-- in groups, a tree has `:` before it: at the beginning of a group or after a comma (b: this is such a place)
 abbrev pub roots : Bool → Stream → Bool
 roots b end = false
 roots b (leaf x sp m) = roots false m
 roots b (punct c j sp m) = or (and b (nat_eq c 58)) (roots (nat_eq c 44) m)
 roots b (group d o c i m) = or (roots true i) (roots false m)
 
--- the same of the groups behind the first `use`
+-- the same for the groups after the first `use`
 abbrev pub use_roots : Stream → Bool
 use_roots end = false
 use_roots (leaf x sp m) = pick (is_text w_use x) (roots false m) (use_roots m)
 use_roots (punct c j sp m) = use_roots m
 use_roots (group d o c i m) = use_roots m
 
--- RULES THAT READ `where` outside of groups, or any tokens. All others don't.
+-- RULES THAT READ `where` outside of groups, or any tokens. No other rule does.
 abbrev pub worded : List Rule
 worded = meta ∷ meta_value ∷ where_clause ∷ structure ∷ structure_rest ∷ structure_body ∷ enumeration ∷ enumeration_rest ∷ union_item ∷ union_item_rest ∷ derive_input ∷ statements ∷ statement_rest ∷ after_block ∷ after_expression ∷ statement ∷ signature ∷ signature_rest ∷ function ∷ function_rest ∷ alias ∷ trait_alias ∷ trait_alias_rest ∷ type_item ∷ type_item_rest ∷ bodiless_function ∷ odd_const ∷ odd_type ∷ bare_trait ∷ trait_definition ∷ trait_definition_rest ∷ const_alias ∷ restricted_trait ∷ impl_body ∷ impl_definition ∷ impl_definition_rest ∷ odd_impl ∷ visible_const_impl ∷ bare_trait_function ∷ bare_trait_type ∷ trait_function ∷ trait_type ∷ any_const ∷ marked_member ∷ odd_trait_const ∷ kept_trait_item ∷ trait_item ∷ trait_items ∷ impl_function ∷ impl_type ∷ bodiless_impl_function ∷ odd_impl_const ∷ odd_impl_type ∷ kept_impl_item ∷ impl_item ∷ impl_items ∷ foreign_signature ∷ foreign_function ∷ foreign_type ∷ foreign_body ∷ odd_foreign_type ∷ kept_foreign_item ∷ foreign_item ∷ foreign_items ∷ kept_item_rest ∷ kept_item ∷ kept_in_block ∷ item_rest ∷ item ∷ items ∷ file ∷ []
 
 abbrev pub wordless : Rule → Bool
 wordless k = no (among k worded)
 
--- rules that may stand before `use`: they read no lifetime and no `use` outside of groups
+-- rules that may come before `use`: they read no lifetime and no `use` outside of groups
 abbrev pub opening : Rule → Bool
 opening k = or (same_rule k attributes) (same_rule k visibility)
 
@@ -61,8 +61,8 @@ abbrev pub no_quote : Text → Bool
 no_quote [] = true
 no_quote (c ∷ l) = and (no (nat_eq c 39)) (no_quote l)
 
--- A FORM THAT DOESN'T READ THIS WORD outside of groups, by what is said of rules; and no lifetime, where these count too (false). No mark ends with
--- `'`, so lifetimes are whole.
+-- A FORM THAT DOESN'T READ THIS WORD outside of groups, given a test of rules; nor a lifetime, if a is false. No mark ends with
+-- `'`, so lifetimes are complete.
 abbrev pub spares : Bool → (Rule → Bool) → Text → Grammar → Bool
 spares a said x empty = true
 spares a said x (token b k) = no (mem (Word x) (terminals k))
@@ -86,7 +86,7 @@ spares a said x (generics_before g h f) = and (spares a said x g) (and (spares a
 spares a said x (row g h) = and (spares a said x g) (spares a said x h)
 spares a said x (ordered g h) = and (spares a said x g) (spares a said x h)
 
--- WHAT WAS READ from the one stream to the other, piece by piece: forms and the values that they were read as, the last one first
+-- THE PARTS READ from the one stream to the other: forms and their values, the last one first
 abbrev pub Piece : Type 0
 Piece = Grammar × Syntax
 
@@ -98,14 +98,14 @@ abbrev pub all_spare : Bool → (Rule → Bool) → Text → List Piece → Bool
 all_spare a said x [] = true
 all_spare a said x (p ∷ l) = and (spares a said x p.0) (all_spare a said x l)
 
--- A TYPE ALIAS, behind pieces without `where`: a where clause, `=`, a type and a where clause pass the test `one_where` exactly where `where`
--- stands once at most among all tokens that were read. Holds of every stream.
+-- A TYPE ALIAS, after parts without `where`: a where clause, `=`, a type and a where clause pass the test `one_where` if and only if `where`
+-- occurs at most once among all tokens read. Holds for every stream.
 abbrev pub OneWhereTold : Type 0
 OneWhereTold = (l : List Piece) (b m : Stream) (w q t x : Syntax) → all_spare true wordless w_where l ≡ true →
     WasRead ((rule where_clause, x) ∷ (rule type, t) ∷ (punctuation equals, q) ∷ (rule where_clause, w) ∷ l) b m → has_one_where (before b m) ≡ holds one_where (parts (w ∷ q ∷ t ∷ x ∷ []))
 
--- A USE, behind attributes and a visibility (or either of them): one of the trees in its braces has `::` before it exactly where such a `:` stands among the tokens.
--- Holds of every stream.
+-- A USE, after attributes and a visibility, both optional: a tree in its braces has `::` before it if and only if such a `:` occurs among the tokens.
+-- Holds for every stream.
 abbrev pub RootMarkTold : Type 0
 RootMarkTold = (l : List Piece) (b m : Stream) (k t : Syntax) → all_spare false opening w_use l ≡ true →
     WasRead ((inside Brace (rule rooted_trees), t) ∷ (plainly (word w_use), k) ∷ l) b m → use_roots (before b m) ≡ holds (has root_mark) t

@@ -1,4 +1,4 @@
--- How the logic stores a tree: as the list of steps that build it, its parts before it.
+-- The logic stores a tree as the list of steps that build it, its parts before it.
 use Rattle.std.specs.Prelude.{◌≡◌, ℕ, List, [], ◌∷◌, Bool, true, false, cond, ◌==◌, refl}
 use Rattle.std.specs.Coded.{Coded, code_by, coded×, coded_ℕ, coded_list}
 use Rattle.syn_grammar.specs.Words.{Text}

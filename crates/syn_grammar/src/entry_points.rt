@@ -1,5 +1,5 @@
-//! The entry points of the grammar agree, each law the contract of a function that takes, gives and does nothing.
-//! Their statements stand in specs/EntryPoints.antt. They hold of every token stream.
+//! The entry points of the grammar agree, each law the contract of an empty function without parameters.
+//! Their statements are in specs/EntryPoints.antt. They hold of every token stream.
 
 ghost use Rattle.syn_grammar.specs.EntryPoints.{KindsAgree, KindsDerive, SomeKind, KeptAsRead, InputsAreItems, InputsDeriveItems};
 ghost use Rattle.syn_grammar.specs.Joined.{JoinedItems, JoinedIsVisible};
@@ -7,8 +7,8 @@ ghost use Rattle.syn_grammar.specs.Listed.{NamesStandAhead, ListingBegins, Listi
 ghost use Rattle.syn_grammar.specs.Rules.{item, trait_item, impl_item, foreign_item, derive_input};
 
 /// An item of some kind is read, and derived, exactly where the rule of that kind reads and derives it, as the same value and with
-/// the same rest; each item is of one of these kinds; and one that is kept as tokens holds exactly those that were read, which are
-/// its print.
+/// the same rest; each item is of one of these kinds; and a verbatim one holds exactly the tokens that were read, which are its
+/// print.
 pub fn item_kinds()
     ensures read { KindsAgree item }
     ensures derived { KindsDerive item }
@@ -50,13 +50,13 @@ pub fn derive_inputs_are_items()
     ensures derived_as_items { InputsDeriveItems }
 {}
 
-/// The name of an item (specs/Listed) stands behind the word of its kind, of a macro behind `!`: the first that stands in no group.
+/// The name of an item (specs/Listed) follows the first word of its kind outside of groups; of a macro it follows the first `!`.
 pub fn names_stand_ahead()
     ensures behind_the_word { NamesStandAhead }
 {}
 
-/// A file is listed item by item: behind its inner attributes each item by the rule of its kind, and by the name that stands ahead,
-/// up to the end; and where none of these rules reads, no file is derived.
+/// A file is listed item by item: after its inner attributes each item by the rule of its kind and by its name, up to the end;
+/// and where none of these rules reads, no file is derived.
 pub fn files_are_listed()
     ensures begins { ListingBegins }
     ensures goes_on { ListingGoesOn }
@@ -64,7 +64,7 @@ pub fn files_are_listed()
     ensures refused { ListingRefused }
 {}
 
-/// The prints of items, one behind the other, are derived as a file without attributes, whose items have the normal forms of these;
+/// The prints of items, one after the other, are derived as a file without attributes, whose items have the normal forms of these;
 /// and they are visible where the items were derived of visible streams.
 pub fn items_are_joined()
     ensures as_a_file { JoinedItems }

@@ -1,5 +1,5 @@
-//! The laws of the grammar, each the contract of a function that takes, gives and does nothing.
-//! Their statements stand in specs/Laws.antt, and in specs/Grows.antt. They hold of every token stream, where none is said to be visible.
+//! The laws of the grammar, each the contract of an empty function without parameters. Their statements are in
+//! specs/Laws.antt and specs/Grows.antt. They hold of every token stream, unless they require a visible one.
 
 ghost use Rattle.syn_grammar.specs.Grows.{LiftKeeps, StillDerives};
 ghost use Rattle.syn_grammar.specs.Laws.{OneTree, SpansDecideNothing, PrintIsRead, PrintIsVisible, NormalPrints, NormalIsIdempotent, NormalForgetsSpans, SameForm, EndsByItself};
@@ -11,26 +11,26 @@ pub fn one_tree()
     ensures unambiguous { OneTree }
 {}
 
-/// Spans (in bytes) decide nothing: of two token streams that are equal but for their spans, a rule
-/// derives both or none, and the two trees are equal but for their spans. Holds of every token stream.
+/// Spans (in bytes) decide nothing: a rule derives both or none of two token streams that differ only in
+/// spans, and the two trees differ only in spans. Holds of every token stream.
 pub fn spans_decide_nothing()
     ensures like_trees { SpansDecideNothing }
 {}
 
-/// What is printed of a derived tree is derived again by the same rule, as a tree of the same normal
-/// form. Holds of every token stream.
+/// The same rule derives the print of a derived tree again, as a tree with the same normal form. Holds
+/// of every token stream.
 pub fn print_is_read()
     ensures derived_again { PrintIsRead }
 {}
 
-/// What is printed of a tree that was derived of a visible token stream (one without invisible groups
-/// at any depth) is visible.
+/// The print of a tree that is derived from a visible token stream (one without invisible groups at any
+/// depth) is visible.
 pub fn print_is_visible()
     ensures stays_visible { PrintIsVisible }
 {}
 
-/// The normal form prints as the tree does, with every span 0 to 0. Holds of every syntax tree, also
-/// of one that was made by hand.
+/// The normal form prints as the tree does, with every span 0 to 0. Holds of every syntax tree, also of one
+/// that is built by hand.
 pub fn normal_prints()
     ensures prints_alike { NormalPrints }
 {}
@@ -81,16 +81,16 @@ pub fn foreign_item_ends_by_itself()
     ensures before_everything { EndsByItself foreign_item }
 {}
 
-/// The grammar has grown: traits and impls with `const` became kinds of items, and struct literals
-/// came. What a rule of the grammar before derives, the grammar derives of the same tokens: each such
-/// trait or impl, at any depth, is that one, no more kept as tokens, or kept as another form. It
-/// holds of every token stream.
+/// Everything accepted before `const` traits and impls became kinds of items, and before struct literals,
+/// is still accepted: what a rule of the earlier grammar derives from some tokens, the rule derives from
+/// the same tokens. Each such trait or impl, at any depth, is no longer verbatim, or is verbatim in
+/// another form. It holds of every token stream.
 pub fn still_derives()
     ensures grown { StillDerives }
 {}
 
-/// A tree of the grammar before in which no such trait or impl stands is as it was, and so is its
-/// print. It holds of every syntax tree.
+/// A tree of the earlier grammar without such a trait or impl is unchanged, and so is its print. It holds
+/// of every syntax tree.
 pub fn lift_keeps()
     ensures kept { LiftKeeps }
 {}

@@ -1,4 +1,4 @@
--- What a type alias stands for is read with one where clause at most.
+-- What a type alias represents is read with one where clause at most.
 use Rattle.std.proofs.Common.{◌≡◌, Bool, true, false, Some, None, refl, sym, ap, ap₂, ◌∙◌}
 use Rattle.syn_grammar.specs.Words.{equals, w_where}
 use Rattle.syn_grammar.specs.Tokens.{Stream, and, at_word, no, or, pick}
@@ -12,10 +12,10 @@ use Rattle.syn_grammar.proofs.Takes.{TreeAndRest}
 use Rattle.syn_lower.specs.Generics.{no_clause}
 use Rattle.syn_lower.specs.WhereClauses.{clause_form, clause_there}
 use Rattle.syn_grammar.proofs.Each.{where_clause_is}
-use Rattle.syn_item.specs.ItemForms.{aliased_form, place_by, told_alias}
+use Rattle.syn_item.specs.ItemForms.{aliased_form, place_by, known_alias}
 use Rattle.syn_item.specs.Simple.{aliased, place_aside, syntax_of_WhereClausePlacement}
 
--- a clause where it stands next, and where it doesn't
+-- a clause if it is next, and none if it isn't
 some_clause : (ts : Stream) → sees (at_word w_where) ts ≡ true → parse_rule where_clause ts ≡ clause_there ts
 unfolding clause_there
 some_clause ts h = where_clause_is ts ∙ ap (λ b. wrap Node (vanish false (branch b (parse_form clause_form ts) (Some (Nothing, ts))))) h ∙ go (parse_form clause_form ts)
@@ -27,7 +27,7 @@ some_clause ts h = where_clause_is ts ∙ ap (λ b. wrap Node (vanish false (bra
 none_clause : (ts : Stream) → sees (at_word w_where) ts ≡ false → parse_rule where_clause ts ≡ Some (no_clause, ts)
 none_clause ts h = where_clause_is ts ∙ ap (λ b. wrap Node (vanish false (branch b (parse_form clause_form ts) (Some (Nothing, ts))))) h
 
--- one answer has one value
+-- one result has one value
 abbrev found : Syntax → Stream → Out
 found s r = Some (s, r)
 
@@ -36,11 +36,11 @@ one_value a b m r e =
     let i : ◌≡◌ {A = TreeAndRest} (a, m) (b, r) = cc e in
     ap (λ (y : TreeAndRest). y.0) i
 
--- where no clause stands, none is read
+-- if there is no clause, none is read
 none_read : (ts : Stream) (s : Syntax) (r : Stream) → sees (at_word w_where) ts ≡ false → parse_rule where_clause ts ≡ Some (s, r) → s ≡ no_clause
 none_read ts s r h e = one_value s no_clause r ts (sym e ∙ none_clause ts h)
 
--- a clause that stands leaves no place of its own, and neither does one before `=`, whether it stands or not
+-- a clause that is there leaves no place of its own, and neither does one before `=`, whether it is there or not
 one_aside : (ts : Stream) (s : Syntax) (r : Stream) → sees (at_word w_where) ts ≡ true → parse_rule where_clause ts ≡ Some (s, r) → place_aside (Right Nothing) s ≡ Unshown Nothing
 unfolding clause_there
 one_aside ts s r h e = go (parse_form clause_form ts) (sym (some_clause ts h) ∙ e)
@@ -77,7 +77,7 @@ module _ (m0 m1 m2 m3 m : Stream) (w q t x : Syntax) where
   abbrev is_late : Bool
   is_late = sees (at_word w_where) m3
 
-  -- with one clause at most it is read as the alias is seen: by where the clause stands
+  -- with one clause at most it is read as the alias is seen: by where the clause is
   pub alias_placed : parse_rule where_clause m0 ≡ Some (w, m1) → take_mark equals m1 ≡ Some (q, m2) → parse_rule type m2 ≡ Some (t, m3) → parse_rule where_clause m3 ≡ Some (x, m) →
       and is_early is_late ≡ false → parse_form aliased_form m0 ≡ Some (aliased (syntax_of_WhereClausePlacement (place_by is_late)) (pick is_late x w) q t, m)
   alias_placed iw iq it ix h = alias_read iw iq it ix ∙ go is_early is_late refl refl h
@@ -99,11 +99,11 @@ module _ (m0 m1 m2 m3 m : Stream) (w q t x : Syntax) where
       go true false k = absurd (cc k)
       go false c k = absurd (cc k)
 
-  -- so it is told by both places
-  pub alias_told : parse_rule where_clause m0 ≡ Some (w, m1) → take_mark equals m1 ≡ Some (q, m2) → parse_rule type m2 ≡ Some (t, m3) → parse_rule where_clause m3 ≡ Some (x, m) →
-      parse_form aliased_form m0 ≡ told_alias is_early is_late w q t x m
-  alias_told iw iq it ix = go (and is_early is_late) refl
+  -- so it is decided by both places
+  pub alias_known : parse_rule where_clause m0 ≡ Some (w, m1) → take_mark equals m1 ≡ Some (q, m2) → parse_rule type m2 ≡ Some (t, m3) → parse_rule where_clause m3 ≡ Some (x, m) →
+      parse_form aliased_form m0 ≡ known_alias is_early is_late w q t x m
+  alias_known iw iq it ix = go (and is_early is_late) refl
     where
-      go : (b : Bool) → and is_early is_late ≡ b → parse_form aliased_form m0 ≡ told_alias is_early is_late w q t x m
+      go : (b : Bool) → and is_early is_late ≡ b → parse_form aliased_form m0 ≡ known_alias is_early is_late w q t x m
       go true h = alias_refused iw iq it ix h ∙ sym (ap (λ (b : Bool). only (no b) (Some (aliased (syntax_of_WhereClausePlacement (place_by is_late)) (pick is_late x w) q t, m))) h)
       go false h = alias_placed iw iq it ix h ∙ sym (ap (λ (b : Bool). only (no b) (Some (aliased (syntax_of_WhereClausePlacement (place_by is_late)) (pick is_late x w) q t, m))) h)

@@ -1,4 +1,4 @@
--- The attributes of what has a body: outer ones, and inner ones behind them.
+-- The attributes of what has a body: outer ones, and inner ones after them.
 use Rattle.std.proofs.Common.{◌≡◌, ℕ, zero, suc, Bool, true, false, List, [], ◌∷◌, ◌++◌, Some, None, refl, sym, ap, ◌∙◌, true≢false}
 use Rattle.std.specs.Prelude.{Option}
 use Rattle.syn_grammar.specs.Words.{exclamation, pound}
@@ -17,7 +17,7 @@ use Rattle.syn_lower.specs.Attributes.{all_attributes_syntax, all_listed, attrib
 use Rattle.syn_lower.specs.declared.attr.Attribute.{Attribute}
 use Rattle.syn_lower.specs.Bodies.{attributes_before_body, attributes_in_body, listed_before, listed_inside, outer_first}
 
--- one answer has one value
+-- one result has one value
 abbrev found : Syntax → Stream → Out
 found s r = Some (s, r)
 
@@ -29,12 +29,12 @@ one_value a b m r e =
 abbrev all : List Attribute → Syntax
 all l = in_order syntax_of_Attribute l
 
--- WHAT THE RULE OF INNER ATTRIBUTES READS are inner ones alone: behind the last of them nothing stands unshown
+-- WHAT THE RULE OF INNER ATTRIBUTES READS are inner ones alone: after the last of them nothing is unshown
 
 abbrev attribute : Grammar
 attribute = asking_punctuation pound & punctuation exclamation & inside Bracket (rule meta)
 
--- what stands behind the last attribute
+-- what follows the last attribute
 abbrev tail : Syntax → Syntax
 tail (Node (Left (Both a more))) = tail more
 tail (Node (Right s)) = s
@@ -100,7 +100,7 @@ outer_of (a ∷ l) h = go (every is_outer (all (a ∷ l))) refl
     go true e = refl
     go false e = absurd (cc (sym (shown_tail is_outer (pick (every is_outer (all (a ∷ l))) Nothing (all (a ∷ l))) (a ∷ l)) ∙ ap tail (sym h) ∙ all_tail (a ∷ l), ap (λ b. Unshown (pick b Nothing (all (a ∷ l)))) e))
 
--- THE ONES BEHIND THE OTHERS
+-- ONES AFTER OTHERS
 
 first_both : (l m : List Attribute) → every is_outer (all l) ≡ true → outer_first (all (l ++ m)) ≡ outer_first (all m)
 first_both [] m e = refl
@@ -165,11 +165,11 @@ inner_stand_inside ts l m r o i =
     let h = inner_read ts m r i in
     i ∙ ap (λ s. Some (s, r)) (ap (λ b. shown_before is_inner (pick b Nothing (all m)) (all m)) h ∙ sym (inner_front l m (outer_of l o)))
 
--- IN BRACES, behind the attributes, the rest is read to the end
+-- IN BRACES, after the attributes, the rest is read to the end
 
-behind_closed : (d : Delimiter) (g : Opened) (f : Syntax → Syntax) (o : Out) → close d g (wrap f o) ≡ close d g (wrap f (whole_only o))
-behind_closed d g f None = refl
-behind_closed d g f (Some p) = go (is_end p.1) refl
+after_closed : (d : Delimiter) (g : Opened) (f : Syntax → Syntax) (o : Out) → close d g (wrap f o) ≡ close d g (wrap f (whole_only o))
+after_closed d g f None = refl
+after_closed d g f (Some p) = go (is_end p.1) refl
   where
     go : (b : Bool) → is_end p.1 ≡ b → close d g (Some (f p.0, p.1)) ≡ close d g (wrap f (only b (Some p)))
     go true e = refl
@@ -184,7 +184,7 @@ behind_attributes k (Some g) = go (parse_rule inner_attributes g.content)
   where
     go : (o : Out) → close Brace g (and_then o (parse_rule k)) ≡ close Brace g (and_then o (to_end k))
     go None = refl
-    go (Some p) = behind_closed Brace g (Both p.0) (parse_rule k p.1)
+    go (Some p) = after_closed Brace g (Both p.0) (parse_rule k p.1)
 
 pub body_read : (ts : Stream) → parse_rule body ts ≡ wrap Node (within Brace (take_group Brace ts) (λ i. and_then (parse_rule inner_attributes i) (to_end statements)))
 body_read ts = body_is ts ∙ ap (wrap Node) (behind_attributes statements (take_group Brace ts))

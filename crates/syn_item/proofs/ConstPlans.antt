@@ -22,14 +22,14 @@ use Rattle.syn_recognize.proofs.ItemLooks.{auto_seen}
 use Rattle.syn_item.specs.ItemTurns.{const_or_kept_turn, const_turn, function_turn}
 use Rattle.syn_item.specs.Planned.{Follows, OnlyKept}
 use Rattle.syn_item.proofs.Followed.{is_kept}
-use Rattle.syn_item.proofs.ItemWords.{ReadWord, word_told}
+use Rattle.syn_item.proofs.ItemWords.{ReadWord, word_known}
 use Rattle.syn_item.proofs.MemberFunctions.{past_word, signature_goes}
 
 module _ (k : Rule) (ts : Stream) (p : Place) (a v : Syntax) (m : Stream) where
   abbrev run : Out
   run = run_plan (const_turn p a v) k ts m
 
-  -- behind the word that was read
+  -- after the word that was read
   behind : (x : Syntax) (r : Stream) → take_token (word w_const) m ≡ Some (x, r) → run ≡ run_plan (behind_const p a v x) k ts r
   behind x r e = ap (follow (λ c n. run_plan (behind_const p a v c) k ts n)) e
 
@@ -51,7 +51,7 @@ module _ (k : Rule) (ts : Stream) (p : Place) (a v : Syntax) (m : Stream) where
         pub auto_follows : (c : Syntax) (r : Stream) → parse_form (optional_item_word w_const) m ≡ Some (c, r) → auto_next (past m) ≡ true → Goes (run_plan (trait_plan a v c (Right Nothing)) k ts r) → Goes run
         unfolding behind_const
         auto_follows c r read h f =
-            let (x, q, e) = word_told w_const m c r at_const read in
+            let (x, q, e) = word_known w_const m c r at_const read in
             let s = sym (past_word w_const m (x, r) e) in
             subst Goes
             (ap (λ z. run_plan (trait_plan a v z (Right Nothing)) k ts r) q
@@ -61,7 +61,7 @@ module _ (k : Rule) (ts : Stream) (p : Place) (a v : Syntax) (m : Stream) where
           pub impl_follows : (c : Syntax) (r : Stream) → parse_form (optional_item_word w_const) m ≡ Some (c, r) → sees (at_word w_impl) (past m) ≡ true → Goes (run_plan (const_impl_plan p a c (Right Nothing)) k ts r) → Goes run
           unfolding behind_const
           impl_follows c r read h f =
-              let (x, q, e) = word_told w_const m c r at_const read in
+              let (x, q, e) = word_known w_const m c r at_const read in
               let s = sym (past_word w_const m (x, r) e) in
               subst Goes
               (ap (λ z. run_plan (const_impl_plan p a z (Right Nothing)) k ts r) q
@@ -103,7 +103,7 @@ module _ (k : Rule) (ts : Stream) (p : Place) (a v : Syntax) (m : Stream) where
                     happened k ts (went false ∷ went false ∷ went false ∷ went false ∷ went false ∷ []) (behind_const p a v x) r
                     (ap (sees (at_word w_unsafe)) s ∙ no_unsafe, (ap (sees (at_word w_trait)) s ∙ no_trait, (ap (sees (at_word w_auto and_also ahead Begins_item)) s ∙ auto_seen (past m) ∙ no_auto, (ap (sees (at_word w_impl)) s ∙ no_impl, (ap (sees (at_word w_async or_else at_extern or_else at_word w_fn)) s ∙ seen (past m) ∙ h, tt)))))
 
--- AN IMPL behind `const`, by where it stands
+-- AN IMPL after `const`, by its place
 
 module _ (k : Rule) (ts : Stream) (p : Place) (a c u : Syntax) (m : Stream) where
   abbrev const_run : Place → Out
@@ -121,7 +121,7 @@ module _ (k : Rule) (ts : Stream) (p : Place) (a c u : Syntax) (m : Stream) wher
   unfolding const_impl_plan
   plain_follows refusal view y new e f = subst (λ (o : Out). Follows refusal view k ts o y new) (sym (ap const_run e)) f
 
--- BEHIND `const unsafe`
+-- AFTER `const unsafe`
 
 module _ (k : Rule) (ts : Stream) (p : Place) (a v : Syntax) (m : Stream) (next : and (sees (at_word w_const) m) (sees (at_word w_unsafe) (past m)) ≡ true) where
   abbrev both_run : Out
@@ -154,9 +154,9 @@ module _ (k : Rule) (ts : Stream) (p : Place) (a v : Syntax) (m : Stream) (next 
     Going o = Follows refusal view k ts o y new
 
     module _ (c : Syntax) (r : Stream) (const_read : parse_form (optional_item_word w_const) m ≡ Some (c, r)) (u : Syntax) (n : Stream) (unsafe_read : parse_form (optional_item_word w_unsafe) r ≡ Some (u, n)) where
-      told_kinds : (b d : Bool) → trait_at (past (past m)) ≡ b → sees (at_word w_impl) (past (past m)) ≡ d →
+      known_kinds : (b d : Bool) → trait_at (past (past m)) ≡ b → sees (at_word w_impl) (past (past m)) ≡ d →
           (x : Syntax) → c ≡ Left x → take_token (word w_const) m ≡ Some (x, r) → (z : Syntax) → u ≡ Left z → take_token (word w_unsafe) r ≡ Some (z, n) → both_run ≡ kinds x z n b d
-      told_kinds b d h i x q e z w f =
+      known_kinds b d h i x q e z w f =
           let s = sym (past_both x r e z n f) in
           ap (follow (λ c n. run_plan (behind_const p a v c) k ts n)) e ∙ at_kinds x r e
           ∙ ap (follow (λ u n. kinds x u n (trait_at n) (sees (at_word w_impl) n))) f
@@ -167,20 +167,20 @@ module _ (k : Rule) (ts : Stream) (p : Place) (a v : Syntax) (m : Stream) (next 
 
       pub unsafe_trait_follows : or (sees (at_word w_trait) (past (past m))) (sees (at_word w_auto) (past (past m))) ≡ true → Going (run_plan (trait_plan a v c u) k ts n) → Going both_run
       unsafe_trait_follows h f =
-          let (x, q, e) = word_told w_const m c r const_here const_read in
-          let (z, w, g) = word_told w_unsafe r u n (at_unsafe x e) unsafe_read in
+          let (x, q, e) = word_known w_const m c r const_here const_read in
+          let (z, w, g) = word_known w_unsafe r u n (at_unsafe x e) unsafe_read in
           subst Going
           (ap₂ (λ s t. run_plan (trait_plan a v s t) k ts n) q w
-          ∙ sym (told_kinds true (sees (at_word w_impl) (past (past m))) (sees_or (at_word w_trait) (at_word w_auto) (past (past m)) ∙ h) refl x q e z w g)) f
+          ∙ sym (known_kinds true (sees (at_word w_impl) (past (past m))) (sees_or (at_word w_trait) (at_word w_auto) (past (past m)) ∙ h) refl x q e z w g)) f
 
       pub unsafe_impl_follows : or (sees (at_word w_trait) (past (past m))) (sees (at_word w_auto) (past (past m))) ≡ false → sees (at_word w_impl) (past (past m)) ≡ true →
           Going (run_plan (const_impl_plan p a c u) k ts n) → Going both_run
       unsafe_impl_follows h i f =
-          let (x, q, e) = word_told w_const m c r const_here const_read in
-          let (z, w, g) = word_told w_unsafe r u n (at_unsafe x e) unsafe_read in
+          let (x, q, e) = word_known w_const m c r const_here const_read in
+          let (z, w, g) = word_known w_unsafe r u n (at_unsafe x e) unsafe_read in
           subst Going
           (ap₂ (λ s t. run_plan (const_impl_plan p a s t) k ts n) q w
-          ∙ sym (told_kinds false true (sees_or (at_word w_trait) (at_word w_auto) (past (past m)) ∙ h) i x q e z w g)) f
+          ∙ sym (known_kinds false true (sees_or (at_word w_trait) (at_word w_auto) (past (past m)) ∙ h) i x q e z w g)) f
 
     pub unsafe_function_follows : or (sees (at_word w_trait) (past (past m))) (sees (at_word w_auto) (past (past m))) ≡ false → sees (at_word w_impl) (past (past m)) ≡ false →
         Going (run_plan (function_turn a v) k ts m) → Going both_run

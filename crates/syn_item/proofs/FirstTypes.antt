@@ -1,4 +1,4 @@
--- What stands behind the generics of an impl, as it is read, and what stands behind that.
+-- What follows the generics of an impl, as it is read, and what follows that.
 use Rattle.std.proofs.Common.{◌≡◌, Bool, true, false, [], ◌∷◌, Some, None, refl, sym, ap, ◌∙◌}
 use Rattle.std.specs.Prelude.{Option, Result, Ok, Err}
 use Rattle.syn_grammar.specs.Words.{exclamation, w_for}
@@ -12,7 +12,7 @@ use Rattle.syn_grammar.specs.Run.{and_impl, and_then, branch, first_rule, named,
 use Rattle.syn_grammar.specs.Promises.{Computes}
 use Rattle.syn_grammar.proofs.Each.{for_self_type_is, self_type_is}
 use Rattle.syn_lower.specs.Generics.{where_part}
-use Rattle.syn_item.specs.ImplForms.{ReadsBefore, bang_then, behind_impl_form, impl_generics_form, path_then, types_then}
+use Rattle.syn_item.specs.ImplForms.{ReadsBefore, bang_then, after_impl_form, impl_generics_form, path_then, types_then}
 use Rattle.syn_item.specs.Impls.{for_type, inherent, without_self_type}
 use Rattle.syn_item.proofs.NoSelfTypes.{left_as_read}
 
@@ -36,18 +36,18 @@ module _ (q : Stream) where
   no_for e = for_goes q ∙ ap (λ o. wrap Node (and_then o (first_rule parse_rule (self_type ∷ [])))) e
 
   module _ (s : Syntax) (q2 : Stream) (sign : take_token (word w_for) q ≡ Some (s, q2)) where
-    behind_for : parse_rule for_self_type q ≡ wrap Node (wrap (Both s) (wrap (Case self_type) (parse_rule type q2)))
-    behind_for = for_goes q ∙ ap (λ o. wrap Node (and_then o (first_rule parse_rule (self_type ∷ [])))) sign ∙ ap (λ o. wrap Node (wrap (Both s) o)) (first_self q2)
+    after_for : parse_rule for_self_type q ≡ wrap Node (wrap (Both s) (wrap (Case self_type) (parse_rule type q2)))
+    after_for = for_goes q ∙ ap (λ o. wrap Node (and_then o (first_rule parse_rule (self_type ∷ [])))) sign ∙ ap (λ o. wrap Node (wrap (Both s) o)) (first_self q2)
 
     no_type : parse_rule type q2 ≡ None → parse_rule for_self_type q ≡ None
-    no_type e = behind_for ∙ ap (λ o. wrap Node (wrap (Both s) (wrap (Case self_type) o))) e
+    no_type e = after_for ∙ ap (λ o. wrap Node (wrap (Both s) (wrap (Case self_type) o))) e
 
     for_read : (t : Syntax) (q3 : Stream) → parse_rule type q2 ≡ Some (t, q3) → parse_rule for_self_type q ≡ Some (for_type s t, q3)
     for_read t q3 e =
-        behind_for ∙ ap (λ o. wrap Node (wrap (Both s) (wrap (Case self_type) o))) e
+        after_for ∙ ap (λ o. wrap Node (wrap (Both s) (wrap (Case self_type) o))) e
         ∙ ap (λ (z : Syntax). Some (Node (Both s (Case self_type z)), q3)) (sym (left_as_read (rule type) q2 q3 t refl e))
 
--- `!`, AND WHAT STANDS BEHIND IT
+-- `!`, AND WHAT FOLLOWS IT
 
 module _ (m : Stream) where
   abbrev by_bang : (Stream → Out) → Out → Out
@@ -71,18 +71,18 @@ module _ (m : Stream) where
       abbrev negative : (Stream → Out) → Out → Out
       negative f o = wrap Left (wrap (Both x) (wrap Right (and_then o (λ q. and_then (parse_rule for_self_type q) f))))
 
-      behind_bang : (f : Stream → Out) → wrap Left (bang_then f m) ≡ negative f (parse_rule type_path r)
-      behind_bang f = ap (by_bang f) bang ∙ ap (λ b. wrap Left (wrap (Both x) (branch b (f r) (and_then (parse_rule type_path r) (λ q. and_then (parse_rule for_self_type q) f))))) no_brace
+      after_bang : (f : Stream → Out) → wrap Left (bang_then f m) ≡ negative f (parse_rule type_path r)
+      after_bang f = ap (by_bang f) bang ∙ ap (λ b. wrap Left (wrap (Both x) (branch b (f r) (and_then (parse_rule type_path r) (λ q. and_then (parse_rule for_self_type q) f))))) no_brace
 
       pub negative_path_refused : parse_rule type_path r ≡ None → (f : Stream → Out) → wrap Left (bang_then f m) ≡ None
-      negative_path_refused e f = behind_bang f ∙ ap (negative f) e
+      negative_path_refused e f = after_bang f ∙ ap (negative f) e
 
       module _ (t : Syntax) (q : Stream) (path : parse_rule type_path r ≡ Some (t, q)) where
         abbrev behind : (Stream → Out) → Out → Out
         behind f o = wrap Left (wrap (Both x) (wrap Right (wrap (Both t) (and_then o f))))
 
         behind_path : (f : Stream → Out) → wrap Left (bang_then f m) ≡ behind f (parse_rule for_self_type q)
-        behind_path f = behind_bang f ∙ ap (negative f) path
+        behind_path f = after_bang f ∙ ap (negative f) path
 
         pub negative_for_refused : take_token (word w_for) q ≡ None → (f : Stream → Out) → wrap Left (bang_then f m) ≡ None
         negative_for_refused e f = behind_path f ∙ ap (behind f) (no_for q e)
@@ -141,7 +141,7 @@ module _ (m : Stream) where
         go None = refl
         go (Some p) = ap (λ (z : Syntax). Some (Right (Left (Both z (Both (Left (for_type s y)) p.0))), p.1)) (sym (left_as_read (rule type_path) m q t refl path))
 
--- BY WHAT STANDS NEXT
+-- BY THE NEXT TOKEN
 
 pub read_alike : {X E : Type 0} (refusal : E → Type 0) (v : X → Syntax → Syntax) (out like : (Stream → Out) → Out) (x : Result X E) (new : Stream) → ((f : Stream → Out) → out f ≡ like f) →
     ReadsBefore refusal v like x new → ReadsBefore refusal v out x new
@@ -161,11 +161,11 @@ module _ (m : Stream) where
   pub at_type_first : sees at_exclamation m ≡ false → sees at_module_path m ≡ false → (f : Stream → Out) → types_then f m ≡ wrap Right (wrap Right (and_then (parse_rule type m) f))
   at_type_first h i f = ap (λ b. by_looks f b (sees at_module_path m)) h ∙ ap (by_looks f false) i
 
--- THE WHOLE behind `impl`
+-- THE WHOLE after `impl`
 
 module _ (mk : Syntax → Syntax) (m : Stream) where
   abbrev whole : Out
-  whole = wrap mk (parse_form behind_impl_form m)
+  whole = wrap mk (parse_form after_impl_form m)
 
   abbrev by_generics : Out → Out
   by_generics o = wrap mk (and_impl o (types_then (parse_rule impl_body)))

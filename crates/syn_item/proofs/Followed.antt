@@ -1,4 +1,4 @@
--- How far a plan was followed, for who reads by one: what is left of it is kept as tokens, has ended, is refused, or is read on.
+-- How far a plan was followed, for who reads by one: what is left of it is kept verbatim, has ended, is refused, or is read on.
 use Rattle.std.proofs.Common.{◌≡◌, true, List, Some, None, refl, sym, ap, subst, ◌∙◌}
 use Rattle.std.specs.Prelude.{Option, Result, Err}
 use Rattle.syn_grammar.specs.Tokens.{Stream}
@@ -24,6 +24,6 @@ module _ (k : Rule) (ts : Stream) (l : List Event) (p : Plan) (m : Stream) (h : 
       Follows refusal view k ts (run_plan (left_over l p) k ts (behind_all l m)) x new → Follows refusal view k ts (run_plan p k ts m) x new
   goes_on refusal view x new f = subst (λ (o : Out). Follows refusal view k ts o x new) (sym (happened k ts l p m h)) f
 
--- where a call that a plan goes on by is refused, so is the plan
+-- where a call that a plan continues by is refused, so is the plan
 pub refused_by : {X E : Type 0} (refusal : E → Type 0) (view : X → Syntax) (k : Rule) (ts : Stream) (out : Out) (x : Result (Option X) E) (new : Stream) (e : E) → x ≡ Err e → (refusal e → out ≡ None) → Follows refusal view k ts out x new
 refused_by refusal view k ts out x new e i h = subst (λ y. Follows refusal view k ts out y new) (sym i) h

@@ -1,4 +1,4 @@
--- The plan of foreign members, by what stands next behind their visibility.
+-- The plan of foreign members, by the next token after their visibility.
 use Rattle.std.proofs.Common.{◌≡◌, Bool, true, false, [], ◌∷◌, Some, None, refl, sym, ap, ap₂, subst, ◌∙◌, true≢false}
 use Rattle.std.specs.Prelude.{Option, Result}
 use Rattle.syn_grammar.specs.Words.{exclamation, w_Self_type, w_async, w_const, w_extern, w_fn, w_pub, w_safe, w_static, w_type, w_unsafe}
@@ -24,7 +24,7 @@ use Rattle.syn_recognize.proofs.PathLooks.{word_tells}
 use Rattle.syn_item.specs.Macros.{among_members}
 use Rattle.syn_item.specs.NextWords.{foreign_function_next, foreign_word, static_next}
 use Rattle.syn_item.specs.Planned.{Follows}
-use Rattle.syn_item.specs.Stages.{foreign_function_or_kept, foreign_item_plan_behind, foreign_static_or_kept, foreign_type_or_kept}
+use Rattle.syn_item.specs.Stages.{foreign_function_or_kept, foreign_item_plan_after, foreign_static_or_kept, foreign_type_or_kept}
 use Rattle.syn_item.proofs.ImplPlans.{none_written}
 use Rattle.syn_item.proofs.MemberFunctions.{past_word}
 use Rattle.syn_item.proofs.PlanRows.{of_macro, row_is}
@@ -72,7 +72,7 @@ past_safety n false true t h i p e = go (take_token (word w_unsafe) n) refl (sym
     go (Some x) q j = past_word w_unsafe n x q ∙ ap (λ (y : Syntax × Stream). y.1) (some_is (Node (Left (shape untagged (Right x.0))), x.1) p j)
 
 module _ (k : Rule) (ts : Stream) (a v : Syntax) where
-  -- behind the visibility, by whether one stands
+  -- after the visibility, by whether there is one
   abbrev member_plan : Bool → Plan
   member_plan true = turns (at_word w_safe) (safety_plan a v) (foreign_member_plan a v fails)
   member_plan false = turns (at_word w_safe) (turns (ahead Before_macro) (foreign_macro_plan a) (turns (ahead Before_colons) (foreign_macro_plan a) (safety_plan a v))) (foreign_member_plan a v (foreign_macro_plan a))
@@ -85,7 +85,7 @@ module _ (k : Rule) (ts : Stream) (a v : Syntax) where
   type_at true n h = happened k ts (went false ∷ went true ∷ []) (member_plan true) n (seen_apart (at_word w_type) (at_word w_safe) n refl h, (h, tt))
   type_at false n h = happened k ts (went false ∷ went true ∷ []) (member_plan false) n (seen_apart (at_word w_type) (at_word w_safe) n refl h, (h, tt))
 
-  -- STATICS AND FUNCTIONS behind `safe` or `unsafe`
+  -- STATICS AND FUNCTIONS after `safe` or `unsafe`
   abbrev abi_form : Grammar
   abi_form = when at_extern then rule abi else empty
 
@@ -106,7 +106,7 @@ module _ (k : Rule) (ts : Stream) (a v : Syntax) where
   abbrev on : Out → Out
   on o = follow (λ s r. run_plan (foreign_function_end a v s) k ts r) o
 
-  -- the way to the words behind a visibility
+  -- the way to the words after a visibility
   to_safety : (b : Bool) (n : Stream) (s u : Bool) → or s u ≡ true → safe n ≡ s → unsafe n ≡ u → sees (at_word w_type) n ≡ false →
       (b ≡ false → s ≡ true → (sees (ahead Before_macro) n ≡ false) × (sees (ahead Before_colons) n ≡ false)) → at b n ≡ run_plan (safety_plan a v) k ts n
   unfolding foreign_member_plan
@@ -136,7 +136,7 @@ module _ (k : Rule) (ts : Stream) (a v : Syntax) where
       go false x true z i = marked false true refl x z i
       go false x false z i = bare b x z i ∙ sym (ap (follow (λ f r. run_plan (foreign_static_plan a v f) k ts r)) (safety_is n false false x z))
 
-  -- a signature behind `safe` or `unsafe`
+  -- a signature after `safe` or `unsafe`
   signature_at : (n : Stream) → sees (at_word w_const) n ≡ false → sees (at_word w_async) n ≡ false → follow (λ f r. signed f r) (parse_rule safe_or_unsafe n) ≡ on (parse_rule foreign_signature n)
   signature_at n c y =
       go (parse_rule safe_or_unsafe n)
@@ -194,7 +194,7 @@ module _ (k : Rule) (ts : Stream) (a v : Syntax) where
       go false x true z i j = marked false true refl x z i (λ e r. absurd (true≢false (sym r)))
       go false x false z i j = bare b x z i (seen j)
 
-  -- MACROS, where no visibility stands, and none of these words
+  -- MACROS, without a visibility and without these words
   no_words : (n : Stream) → foreign_word n ≡ false → (unsafe n ≡ false) × (sees (at_word w_const or_else at_word w_async or_else at_extern or_else at_word w_fn) n ≡ false)
   no_words n h =
       let (u, o) = or_off (unsafe n) _ h in
@@ -241,16 +241,16 @@ module _ (k : Rule) (ts : Stream) (a v : Syntax) where
       attributed None = refl
       attributed (Some p) = refl
 
--- A MEMBER behind its attributes
+-- A MEMBER after its attributes
 
 module _ (k : Rule) (ts : Stream) (a : Syntax) (m : Stream) where
   abbrev run : Out
-  run = run_plan (foreign_item_plan_behind a) k ts m
+  run = run_plan (foreign_item_plan_after a) k ts m
 
   goes : (b : Bool) → or (sees (at_word w_pub) m) (sees at_empty_group m) ≡ b → run ≡ follow (λ v n. at k ts a v b n) (parse_rule visibility m)
-  unfolding foreign_item_plan_behind foreign_item_plan
-  goes true h = happened k ts (went true ∷ []) (foreign_item_plan_behind a) m (sees_or (at_word w_pub) at_empty_group m ∙ h, tt)
-  goes false h = happened k ts (went false ∷ []) (foreign_item_plan_behind a) m (sees_or (at_word w_pub) at_empty_group m ∙ h, tt) ∙ sym (ap (follow (λ v n. at k ts a v false n)) (none_written m h))
+  unfolding foreign_item_plan_after foreign_item_plan
+  goes true h = happened k ts (went true ∷ []) (foreign_item_plan_after a) m (sees_or (at_word w_pub) at_empty_group m ∙ h, tt)
+  goes false h = happened k ts (went false ∷ []) (foreign_item_plan_after a) m (sees_or (at_word w_pub) at_empty_group m ∙ h, tt) ∙ sym (ap (follow (λ v n. at k ts a v false n)) (none_written m h))
 
   pub visibility_refused : parse_rule visibility m ≡ None → run ≡ None
   visibility_refused e = goes (or (sees (at_word w_pub) m) (sees at_empty_group m)) refl ∙ ap (follow (λ v n. at k ts a v (or (sees (at_word w_pub) m) (sees at_empty_group m)) n)) e

@@ -1,4 +1,4 @@
--- Behind `extern`, or `unsafe`, by the plan of items: a foreign module, or a function.
+-- After `extern`, or `unsafe`, by the plan of items: a foreign module, or a function.
 use Rattle.std.proofs.Common.{◌≡◌, Bool, true, false, [], ◌∷◌, Some, None, refl, sym, ap, subst, ◌∙◌, true≢false}
 use Rattle.std.specs.Prelude.{Option, Result}
 use Rattle.syn_grammar.specs.Words.{w_async, w_const, w_extern, w_unsafe}
@@ -20,7 +20,7 @@ use Rattle.syn_grammar.proofs.Sets.{and_left, and_right}
 use Rattle.syn_item.specs.ItemTurns.{braces_next, function_turn, module_next, module_or_function_turn, no_visibility}
 use Rattle.syn_item.specs.Planned.{Follows}
 
--- the literal behind `extern`, and what stands in the braces of a foreign module
+-- the literal after `extern`, and what is in the braces of a foreign module
 abbrev text_form : Grammar
 text_form = when at_literal Str then plainly (literal_of (Str ∷ [])) else empty
 
@@ -28,7 +28,7 @@ abbrev members_form : Grammar
 members_form = inside Brace (rule inner_attributes & rule foreign_items)
 
 module _ (k : Rule) (ts : Stream) (a v : Syntax) where
-  -- AN ABI THAT WAS READ, behind these modifiers: `unsafe` as a foreign module has it, and as a signature does
+  -- AN ABI THAT WAS READ, after these modifiers: `unsafe` as a foreign module has it, and as a signature does
 
   abbrev of_module : Out → Out
   of_module o = wrap (λ t. Node (Case foreign_module t)) (wrap (Both a) (wrap Node o))
@@ -54,28 +54,28 @@ module _ (k : Rule) (ts : Stream) (a v : Syntax) where
   ends_module m e None = refl
   ends_module m e (Some p) = refl
 
-  -- by what stands behind an ABI of this word, where no visibility was read
+  -- by what follows an ABI of this word, where no visibility was read
   abbrev by_braces : Syntax → Syntax → Syntax → Syntax → Stream → Bool → Out
   by_braces m u w l r b = by_test b (as_module m (Node (Both w l)) r) (as_function u (Left (Node (Both w l))) r)
 
   -- AN ABI, by whether it begins a foreign module
   module _ (m u : Syntax) where
-    abbrev behind_abi : Bool → Out → Out
-    behind_abi p o = follow (λ e r. by_test (and p (sees at_brace r)) (as_module m e r) (as_function u (Left e) r)) o
+    abbrev after_abi : Bool → Out → Out
+    after_abi p o = follow (λ e r. by_test (and p (sees at_brace r)) (as_module m e r) (as_function u (Left e) r)) o
 
     abbrev plan_of : Place → Out → Out
     plan_of p o = follow (λ e r. run_plan (extern_plan p a v m u e) k ts r) o
 
-    text_goes : (p : Place) (w : Syntax) (o : Out) → (r : Stream) → o ≡ parse_form text_form r → run_plan (extern_plan p a v m u w) k ts r ≡ behind_abi (no_visibility p) (wrap Node (wrap (Both w) o))
+    text_goes : (p : Place) (w : Syntax) (o : Out) → (r : Stream) → o ≡ parse_form text_form r → run_plan (extern_plan p a v m u w) k ts r ≡ after_abi (no_visibility p) (wrap Node (wrap (Both w) o))
     unfolding extern_plan
     text_goes public w o r e = ap (follow (λ l q. run_plan (signature_end a v absent absent u (Left (Node (Both w l)))) k ts q)) (sym e) ∙ go o
       where
-        go : (o : Out) → follow (λ l q. run_plan (signature_end a v absent absent u (Left (Node (Both w l)))) k ts q) o ≡ behind_abi false (wrap Node (wrap (Both w) o))
+        go : (o : Out) → follow (λ l q. run_plan (signature_end a v absent absent u (Left (Node (Both w l)))) k ts q) o ≡ after_abi false (wrap Node (wrap (Both w) o))
         go None = refl
         go (Some p) = signature_goes u (Left (Node (Both w p.0))) p.1
     text_goes unwritten w o r e = ap (follow (λ l q. run_plan (signature_end a v absent absent u (Left (Node (Both w l)))) k ts q)) (sym e) ∙ go o
       where
-        go : (o : Out) → follow (λ l q. run_plan (signature_end a v absent absent u (Left (Node (Both w l)))) k ts q) o ≡ behind_abi false (wrap Node (wrap (Both w) o))
+        go : (o : Out) → follow (λ l q. run_plan (signature_end a v absent absent u (Left (Node (Both w l)))) k ts q) o ≡ after_abi false (wrap Node (wrap (Both w) o))
         go None = refl
         go (Some p) = signature_goes u (Left (Node (Both w p.0))) p.1
     text_goes plain w o r e =
@@ -92,31 +92,31 @@ module _ (k : Rule) (ts : Stream) (a v : Syntax) where
 
         go : (o : Out) →
             follow (λ l q. by_test (sees at_brace q) (follow (λ b z. Some (Node (Case foreign_module (Both a (Node (parts (m ∷ Node (Both w l) ∷ b ∷ []))))), z)) (parse_form members_form q)) (run_plan (signature_end a v absent absent u (Left (Node (Both w l)))) k ts q)) o
-            ≡ behind_abi true (wrap Node (wrap (Both w) o))
+            ≡ after_abi true (wrap Node (wrap (Both w) o))
         go None = refl
         go (Some p) = each p.0 p.1 (sees at_brace p.1)
 
-    abi_goes : (p : Place) (r : Stream) → plan_of p (take_token (word w_extern) r) ≡ behind_abi (no_visibility p) (parse_rule abi r)
-    abi_goes p r = go (take_token (word w_extern) r) ∙ sym (ap (behind_abi (no_visibility p)) (abi_is r))
+    abi_goes : (p : Place) (r : Stream) → plan_of p (take_token (word w_extern) r) ≡ after_abi (no_visibility p) (parse_rule abi r)
+    abi_goes p r = go (take_token (word w_extern) r) ∙ sym (ap (after_abi (no_visibility p)) (abi_is r))
       where
-        go : (o : Out) → plan_of p o ≡ behind_abi (no_visibility p) (wrap Node (and_then o (parse_form text_form)))
+        go : (o : Out) → plan_of p o ≡ after_abi (no_visibility p) (wrap Node (and_then o (parse_form text_form)))
         go None = refl
         go (Some q) = text_goes p q.0 (parse_form text_form q.1) q.1 refl
 
-    -- what a foreign module and a signature read behind it
-    is_module : (p b : Bool) (o : Out) → p ≡ true → braces_next o ≡ true → behind_abi p o ≡ of_module (wrap (Both m) (and_then o (parse_form members_form)))
+    -- what a foreign module and a signature read after it
+    is_module : (p b : Bool) (o : Out) → p ≡ true → braces_next o ≡ true → after_abi p o ≡ of_module (wrap (Both m) (and_then o (parse_form members_form)))
     is_module p b None h i = absurd (true≢false (sym i))
     is_module p b (Some q) h i = ap (λ c. by_test c (as_module m q.0 q.1) (as_function u (Left q.0) q.1)) (ap (λ c. and c (sees at_brace q.1)) h ∙ i)
 
-    is_function : (p : Bool) (o : Out) → and p (braces_next o) ≡ false → behind_abi p o ≡ on (wrap Node (wrap (Both absent) (wrap (Both absent) (wrap (Both u) (and_then (wrap Left o) (parse_rule signature_rest))))))
+    is_function : (p : Bool) (o : Out) → and p (braces_next o) ≡ false → after_abi p o ≡ on (wrap Node (wrap (Both absent) (wrap (Both absent) (wrap (Both u) (and_then (wrap Left o) (parse_rule signature_rest))))))
     is_function p None h = refl
     is_function p (Some q) h = ap (λ c. by_test c (as_module m q.0 q.1) (as_function u (Left q.0) q.1)) h
 
--- WHERE `extern` STANDS NEXT, or `unsafe`
+-- IF `extern` IS NEXT, or `unsafe`
 
-braces_behind : (f : Syntax → Syntax) (o : Out) → braces_next (wrap f o) ≡ braces_next o
-braces_behind f None = refl
-braces_behind f (Some p) = refl
+braces_after : (f : Syntax → Syntax) (o : Out) → braces_next (wrap f o) ≡ braces_next o
+braces_after f None = refl
+braces_after f (Some p) = refl
 
 no_extern : (r : Stream) → sees at_extern r ≡ false → take_token (word w_extern) r ≡ None
 no_extern r h = go (take_token (word w_extern) r) (sym (sees_word w_extern r) ∙ h)
@@ -164,36 +164,36 @@ module _ (k : Rule) (ts : Stream) (p : Place) (a v : Syntax) (m : Stream) where
     no_unsafe : sees (at_word w_unsafe) m ≡ false
     no_unsafe = seen_apart at_extern (at_word w_unsafe) m refl h
 
-    extern_goes : run ≡ behind_abi k ts a v absent (Node absent) (no_visibility p) (parse_rule abi m)
+    extern_goes : run ≡ after_abi k ts a v absent (Node absent) (no_visibility p) (parse_rule abi m)
     extern_goes = happened k ts (went true ∷ []) (module_or_function_turn p a v) m (h, tt) ∙ abi_goes k ts a v absent (Node absent) p m
 
     extern_module : and (no_visibility p) (module_next m) ≡ true → run ≡ whole_module
     extern_module i =
         extern_goes
         ∙ is_module k ts a v absent (Node absent) (no_visibility p) true (parse_rule abi m) (and_left (no_visibility p) (module_next m) i)
-        (sym (braces_by false no_unsafe ∙ braces_behind (Both absent) (parse_rule abi m)) ∙ and_right (no_visibility p) (module_next m) i)
+        (sym (braces_by false no_unsafe ∙ braces_after (Both absent) (parse_rule abi m)) ∙ and_right (no_visibility p) (module_next m) i)
         ∙ sym (module_by false no_unsafe)
 
     extern_function : and (no_visibility p) (module_next m) ≡ false → run ≡ run_plan (function_turn a v) k ts m
     extern_function i =
         extern_goes
-        ∙ is_function k ts a v absent (Node absent) (no_visibility p) (parse_rule abi m) (ap (and (no_visibility p)) (sym (braces_by false no_unsafe ∙ braces_behind (Both absent) (parse_rule abi m))) ∙ i)
+        ∙ is_function k ts a v absent (Node absent) (no_visibility p) (parse_rule abi m) (ap (and (no_visibility p)) (sym (braces_by false no_unsafe ∙ braces_after (Both absent) (parse_rule abi m))) ∙ i)
         ∙ sym (ap (on k ts a v)
         (unsafe_signature m (seen_apart at_extern (at_word w_const) m refl h) (seen_apart at_extern (at_word w_async) m refl h)
         ∙ ap (only_unsafe m) no_unsafe
         ∙ ap (λ b. wrap Node (wrap (Both absent) (wrap (Both absent) (wrap (Both (Node absent)) (and_then (branch b (parse_rule abi m) (Some (Nothing, m))) (parse_rule signature_rest)))))) h))
 
-  -- behind `unsafe`
+  -- after `unsafe`
   module _ (h : sees (at_word w_unsafe) m ≡ true) where
     abbrev extern_or_not : Syntax → Stream → Bool → Out
     extern_or_not u r b =
         by_test b (follow (λ e n. run_plan (extern_plan p a v (Left u) (Node (Left (untag u))) e) k ts n) (take_token (word w_extern) r))
         (run_plan (signature_end a v absent absent (Node (Left (untag u))) absent) k ts r)
 
-    abbrev behind_unsafe : Out → Out
-    behind_unsafe o = follow (λ u r. extern_or_not u r (sees at_extern r)) o
+    abbrev after_unsafe : Out → Out
+    after_unsafe o = follow (λ u r. extern_or_not u r (sees at_extern r)) o
 
-    unsafe_goes : run ≡ behind_unsafe (take_token (word w_unsafe) m)
+    unsafe_goes : run ≡ after_unsafe (take_token (word w_unsafe) m)
     unsafe_goes = happened k ts (went false ∷ []) (module_or_function_turn p a v) m (seen_apart (at_word w_unsafe) at_extern m refl h, tt)
 
     unsafe_module : and (no_visibility p) (module_next m) ≡ true → run ≡ whole_module
@@ -205,9 +205,9 @@ module _ (k : Rule) (ts : Stream) (p : Place) (a v : Syntax) (m : Stream) where
             ∙ is_module k ts a v (Left u) (Node (Left (untag u))) (no_visibility p) true (parse_rule abi r) (and_left (no_visibility p) (module_next m) i) j
         at_abi u r false e j = absurd (true≢false (sym j ∙ ap braces_next (abi_is r ∙ ap (λ o. wrap Node (and_then o (parse_form text_form))) (no_extern r e))))
 
-        go : (o : Out) → braces_next (and_then (wrap Left o) (parse_rule abi)) ≡ true → behind_unsafe o ≡ of_module k ts a v (and_then (wrap Left o) (parse_form (rule abi & members_form)))
+        go : (o : Out) → braces_next (and_then (wrap Left o) (parse_rule abi)) ≡ true → after_unsafe o ≡ of_module k ts a v (and_then (wrap Left o) (parse_form (rule abi & members_form)))
         go None j = absurd (true≢false (sym j))
-        go (Some q) j = at_abi q.0 q.1 (sees at_extern q.1) refl (sym (braces_behind (Both (Left q.0)) (parse_rule abi q.1)) ∙ j)
+        go (Some q) j = at_abi q.0 q.1 (sees at_extern q.1) refl (sym (braces_after (Both (Left q.0)) (parse_rule abi q.1)) ∙ j)
 
     unsafe_function : and (no_visibility p) (module_next m) ≡ false → run ≡ run_plan (function_turn a v) k ts m
     unsafe_function i =
@@ -225,11 +225,11 @@ module _ (k : Rule) (ts : Stream) (p : Place) (a v : Syntax) (m : Stream) where
         at_abi u r false e j = signature_goes k ts a v (Node (Left (untag u))) absent r
 
         go : (o : Out) → and (no_visibility p) (braces_next (and_then (wrap Left o) (parse_rule abi))) ≡ false →
-            behind_unsafe o ≡ on k ts a v (wrap Node (wrap (Both absent) (wrap (Both absent) (and_then (wrap Node (wrap Left (wrap (shape untagged) o))) (parse_form rest_form)))))
+            after_unsafe o ≡ on k ts a v (wrap Node (wrap (Both absent) (wrap (Both absent) (and_then (wrap Node (wrap Left (wrap (shape untagged) o))) (parse_form rest_form)))))
         go None j = refl
-        go (Some q) j = at_abi q.0 q.1 (sees at_extern q.1) refl (ap (and (no_visibility p)) (sym (braces_behind (Both (Left q.0)) (parse_rule abi q.1))) ∙ j)
+        go (Some q) j = at_abi q.0 q.1 (sees at_extern q.1) refl (ap (and (no_visibility p)) (sym (braces_after (Both (Left q.0)) (parse_rule abi q.1))) ∙ j)
 
-  -- BY WHICHEVER stands next
+  -- BY WHICHEVER is next
   module_goes : or (sees at_extern m) (sees (at_word w_unsafe) m) ≡ true → and (no_visibility p) (module_next m) ≡ true → run ≡ whole_module
   module_goes b i = go (sees at_extern m) refl b
     where

@@ -1,4 +1,4 @@
--- Impls, printed: what stands behind the generics, and where empty generics are printed.
+-- Impls, printed: what follows the generics, and where empty generics are printed.
 use Rattle.std.proofs.Common.{◌≡◌, Bool, true, false, List, [], ◌∷◌, Option, Some, None, refl, sym, subst, ap, ap₂, ◌∙◌, true≢false}
 use Rattle.syn_grammar.specs.Tokens.{Brace, Delimiter, Span, ◌⧺◌, end, or, pick, at_generics, stands}
 use Rattle.syn_grammar.specs.Shape.{untagged}
@@ -17,7 +17,7 @@ use Rattle.syn_lower.specs.Bodies.{attributes_in_body}
 use Rattle.syn_lower.specs.Generics.{as_row, clause_of, parameters_of, sign_of, syntax_of_GenericParam}
 use Rattle.syn_lower.specs.declared.generics.GenericParam.TheVariants as GenericParam-m
 use Rattle.syn_lower.specs.Types.{syntax_of_Type}
-use Rattle.syn_item.specs.Impls.{behind_generics, for_type, implemented, inherent, is_shaped, kept_list, syntax_of_ImplItem, view_ItemImpl, without_self_type}
+use Rattle.syn_item.specs.Impls.{after_generics, for_type, implemented, inherent, is_shaped, kept_list, syntax_of_ImplItem, view_ItemImpl, without_self_type}
 use Rattle.syn_item.specs.Parts.{members_of}
 use Rattle.syn_item.specs.declared.impls.ItemImpl.TheInside as ItemImpl-in
 
@@ -38,7 +38,7 @@ none_within s = go (is_shaped s) (led_part (renew s)) refl
     go false true e = refl
     go false false e = e
 
--- BEHIND THE GENERICS
+-- AFTER THE GENERICS
 
 abbrev of_trait : Option (Syntax × For) → Syntax
 of_trait o = maybe (pair_of itself for_syntax) o
@@ -69,7 +69,7 @@ or_false : (b : Bool) → or b false ≡ b
 or_false true = refl
 or_false false = refl
 
--- where the type behind `for` would be read as generics
+-- where the type after `for` would be read as generics
 abbrev pub led_for : Option (Syntax × For) → Syntax → Bool
 led_for None ty = false
 led_for (Some p) ty = stands at_generics (print ty)
@@ -114,23 +114,23 @@ module _ (i : ItemImpl-in.Inside) (v : Syntax) (view : view_ItemImpl i ≡ v) wh
   abbrev ty : Syntax
   ty = syntax_of_Type i.self_ty.value
 
-  led_is : led (renew (behind_generics v)) ≡ or (sees at_generics (print (behind_generics v))) (led_for i.trait_ ty)
+  led_is : led (renew (after_generics v)) ≡ or (sees at_generics (print (after_generics v))) (led_for i.trait_ ty)
   led_is =
-      subst (λ (z : Syntax). led (renew (behind_generics z)) ≡ or (sees at_generics (print (behind_generics z))) (led_for i.trait_ ty)) view
+      subst (λ (z : Syntax). led (renew (after_generics z)) ≡ or (sees at_generics (print (after_generics z))) (led_for i.trait_ ty)) view
       (led_by i.modifiers.polarity i.trait_ ty (clause_of i.generics) Brace (at i.brace_token.opening) (at i.brace_token.closing) (Both (attributes_in_body i.attrs.items) (members_of syntax_of_ImplItem i.items.items))
-      ∙ ap (λ b. or b (led_for i.trait_ ty)) (sym (sees_stands at_generics (print (behind_generics (view_ItemImpl i))))))
+      ∙ ap (λ b. or b (led_for i.trait_ ty)) (sym (sees_stands at_generics (print (after_generics (view_ItemImpl i))))))
 
-  pub led_first : sees at_generics (print (behind_generics v)) ≡ true → true ≡ led (renew (behind_generics v))
+  pub led_first : sees at_generics (print (after_generics v)) ≡ true → true ≡ led (renew (after_generics v))
   led_first h = sym (led_is ∙ ap (λ b. or b (led_for i.trait_ ty)) h)
 
-  module _ (not_first : sees at_generics (print (behind_generics v)) ≡ false) where
-    pub led_without : i.trait_ ≡ None → false ≡ led (renew (behind_generics v))
+  module _ (not_first : sees at_generics (print (after_generics v)) ≡ false) where
+    pub led_without : i.trait_ ≡ None → false ≡ led (renew (after_generics v))
     led_without h = sym (led_is ∙ ap₂ or not_first (ap (λ o. led_for o ty) h))
 
-    pub led_behind_for : (p : Syntax × For) → i.trait_ ≡ Some p → sees at_generics (print ty) ≡ led (renew (behind_generics v))
-    led_behind_for p h = sees_stands at_generics (print ty) ∙ sym (led_is ∙ ap₂ or not_first (ap (λ o. led_for o ty) h))
+    pub led_after_for : (p : Syntax × For) → i.trait_ ≡ Some p → sees at_generics (print ty) ≡ led (renew (after_generics v))
+    led_after_for p h = sees_stands at_generics (print ty) ∙ sym (led_is ∙ ap₂ or not_first (ap (λ o. led_for o ty) h))
 
--- GENERICS AND WHAT STANDS BEHIND THEM
+-- GENERICS AND WHAT FOLLOWS THEM
 
 abbrev Param : Type 0
 Param = GenericParam-m.the_data

@@ -1,4 +1,4 @@
--- The plan of an impl's members, by what stands next behind the attributes.
+-- The plan of an impl's members, by the next token after the attributes.
 use Rattle.std.proofs.Common.{◌≡◌, Bool, true, false, List, [], ◌∷◌, Some, None, refl, sym, ap, subst, ◌∙◌, true≢false}
 use Rattle.std.specs.Prelude.{Option, Result}
 use Rattle.syn_grammar.specs.Words.{equals, semicolon, colon, exclamation, w_const, w_default, w_pub, w_type}
@@ -21,12 +21,12 @@ use Rattle.syn_item.specs.ImplForms.{impl_function_of}
 use Rattle.syn_item.specs.Macros.{among_members}
 use Rattle.syn_item.specs.NextWords.{constant_next, function_next, impl_macro_next, no_member_word}
 use Rattle.syn_item.specs.Planned.{Follows, OnlyKept}
-use Rattle.syn_item.specs.Stages.{impl_const_or_kept, impl_item_plan_behind}
+use Rattle.syn_item.specs.Stages.{impl_const_or_kept, impl_item_plan_after}
 use Rattle.syn_item.proofs.Followed.{is_kept, is_refused}
 use Rattle.syn_item.proofs.MemberFunctions.{function_on, other_on}
 use Rattle.syn_item.proofs.PlanRows.{answers, of_macro, row_is, row_read, row_refused, wraps}
 
--- NO VISIBILITY is read where none stands
+-- NO VISIBILITY is read if there is none
 
 no_or : (p q : Bool) → or p q ≡ false → (p ≡ false) × (q ≡ false)
 no_or true q h = absurd (true≢false h)
@@ -42,7 +42,7 @@ none_written ts h =
     go false true x y h i = absurd (true≢false i)
     go false false x y h i = refl
 
--- A MEMBER THAT IS NO MACRO, behind its `default`
+-- A MEMBER THAT IS NO MACRO, after its `default`
 
 module _ (k : Rule) (ts : Stream) (a v d : Syntax) (m : Stream) (no_type : sees (at_word w_type) m ≡ false) where
   abbrev run : Out
@@ -109,48 +109,48 @@ pub type_follows : (k : Rule) (ts : Stream) (a v d : Syntax) (m : Stream) {X E :
 unfolding impl_member_plan
 type_follows k ts a v d m refusal view x new h f = subst (λ (o : Out). Follows refusal view k ts o x new) (sym (happened k ts (went true ∷ []) (impl_member_plan a v d) m (h, tt))) f
 
--- A MEMBER behind its attributes
+-- A MEMBER after its attributes
 
 module _ (k : Rule) (ts : Stream) (a : Syntax) (m : Stream) where
   abbrev whole : Out
-  whole = run_plan (impl_item_plan_behind a) k ts m
+  whole = run_plan (impl_item_plan_after a) k ts m
 
   abbrev goes_on : Syntax → Stream → Out
   goes_on v n = follow (λ d r. run_plan (impl_member_plan a v d) k ts r) (parse_form (optional w_default) n)
 
   member_goes : impl_macro_next m ≡ false → whole ≡ follow goes_on (parse_rule visibility m)
-  unfolding impl_item_plan_behind impl_item_plan impl_member_plan
+  unfolding impl_item_plan_after impl_item_plan impl_member_plan
   member_goes h = go (or (sees (at_word w_pub) m) (sees at_empty_group m)) refl (sees (at_word w_default) m) refl h
     where
       words : sees at_visibility m ≡ false → sees (at_word w_default) m ≡ false → (t c f : Bool) → sees (at_word w_type) m ≡ t → sees (at_word w_const) m ≡ c → sees at_function m ≡ f →
-          and (no t) (and (no c) (no f)) ≡ false → run_plan (impl_item_plan_behind a) k ts m ≡ run_plan (impl_member_plan a inherited absent) k ts m
+          and (no t) (and (no c) (no f)) ≡ false → run_plan (impl_item_plan_after a) k ts m ≡ run_plan (impl_member_plan a inherited absent) k ts m
       words v e true c f x y z q =
-          happened k ts (went false ∷ went false ∷ went true ∷ []) (impl_item_plan_behind a) m (v, (e, (x, tt)))
+          happened k ts (went false ∷ went false ∷ went true ∷ []) (impl_item_plan_after a) m (v, (e, (x, tt)))
           ∙ sym (happened k ts (went true ∷ []) (impl_member_plan a inherited absent) m (x, tt))
       words v e false true f x y z q =
-          happened k ts (went false ∷ went false ∷ went false ∷ went true ∷ []) (impl_item_plan_behind a) m (v, (e, (x, (y, tt))))
+          happened k ts (went false ∷ went false ∷ went false ∷ went true ∷ []) (impl_item_plan_after a) m (v, (e, (x, (y, tt))))
           ∙ sym (happened k ts (went false ∷ went true ∷ []) (impl_member_plan a inherited absent) m (x, (y, tt)))
       words v e false false true x y z q =
-          happened k ts (went false ∷ went false ∷ went false ∷ went false ∷ went true ∷ []) (impl_item_plan_behind a) m (v, (e, (x, (y, (z, tt)))))
+          happened k ts (went false ∷ went false ∷ went false ∷ went false ∷ went true ∷ []) (impl_item_plan_after a) m (v, (e, (x, (y, (z, tt)))))
           ∙ sym (happened k ts (went false ∷ went false ∷ []) (impl_member_plan a inherited absent) m (x, (y, tt)))
       words v e false false false x y z q = absurd (true≢false q)
 
-      behind_default : (o : Out) → follow (λ d r. run_plan (impl_member_plan a inherited (Left d)) k ts r) o ≡ follow (λ d r. run_plan (impl_member_plan a inherited d) k ts r) (wrap Left o)
-      behind_default None = refl
-      behind_default (Some p) = refl
+      after_default : (o : Out) → follow (λ d r. run_plan (impl_member_plan a inherited (Left d)) k ts r) o ≡ follow (λ d r. run_plan (impl_member_plan a inherited d) k ts r) (wrap Left o)
+      after_default None = refl
+      after_default (Some p) = refl
 
-      at_default : (e : Bool) → sees (at_word w_default) m ≡ e → sees at_visibility m ≡ false → pick e (sees (ahead Before_macro) m) (no_member_word m) ≡ false → run_plan (impl_item_plan_behind a) k ts m ≡ goes_on inherited m
+      at_default : (e : Bool) → sees (at_word w_default) m ≡ e → sees at_visibility m ≡ false → pick e (sees (ahead Before_macro) m) (no_member_word m) ≡ false → run_plan (impl_item_plan_after a) k ts m ≡ goes_on inherited m
       at_default true e v q =
-          happened k ts (went false ∷ went true ∷ went false ∷ []) (impl_item_plan_behind a) m (v, (e, (q, tt)))
-          ∙ behind_default (take_token (word w_default) m)
+          happened k ts (went false ∷ went true ∷ went false ∷ []) (impl_item_plan_after a) m (v, (e, (q, tt)))
+          ∙ after_default (take_token (word w_default) m)
           ∙ ap (λ b. follow (λ d r. run_plan (impl_member_plan a inherited d) k ts r) (branch b (take_token (word w_default) m) (Some (Nothing, m)))) (sym e)
       at_default false e v q =
           words v e (sees (at_word w_type) m) (sees (at_word w_const) m) (sees at_function m) refl refl refl q
           ∙ ap (λ b. follow (λ d r. run_plan (impl_member_plan a inherited d) k ts r) (branch b (take_token (word w_default) m) (Some (Nothing, m)))) (sym e)
 
       go : (w : Bool) → or (sees (at_word w_pub) m) (sees at_empty_group m) ≡ w → (e : Bool) → sees (at_word w_default) m ≡ e → pick w false (pick e (sees (ahead Before_macro) m) (no_member_word m)) ≡ false →
-          run_plan (impl_item_plan_behind a) k ts m ≡ follow goes_on (parse_rule visibility m)
-      go true w e i q = happened k ts (went true ∷ []) (impl_item_plan_behind a) m (sees_or (at_word w_pub) at_empty_group m ∙ w, tt)
+          run_plan (impl_item_plan_after a) k ts m ≡ follow goes_on (parse_rule visibility m)
+      go true w e i q = happened k ts (went true ∷ []) (impl_item_plan_after a) m (sees_or (at_word w_pub) at_empty_group m ∙ w, tt)
       go false w e i q = at_default e i (sees_or (at_word w_pub) at_empty_group m ∙ w) q ∙ sym (ap (follow goes_on) (none_written m w))
 
   pub visibility_refused : impl_macro_next m ≡ false → parse_rule visibility m ≡ None → whole ≡ None
@@ -171,20 +171,20 @@ module _ (k : Rule) (ts : Stream) (a : Syntax) (m : Stream) where
   macro = run_plan (impl_macro_plan a) k ts m
 
   macro_goes : impl_macro_next m ≡ true → whole ≡ macro
-  unfolding impl_item_plan_behind impl_item_plan
+  unfolding impl_item_plan_after impl_item_plan
   macro_goes h = go (or (sees (at_word w_pub) m) (sees at_empty_group m)) refl (sees (at_word w_default) m) refl h
     where
       words : sees at_visibility m ≡ false → sees (at_word w_default) m ≡ false → (t c f : Bool) → sees (at_word w_type) m ≡ t → sees (at_word w_const) m ≡ c → sees at_function m ≡ f →
-          and (no t) (and (no c) (no f)) ≡ true → run_plan (impl_item_plan_behind a) k ts m ≡ run_plan (impl_macro_plan a) k ts m
+          and (no t) (and (no c) (no f)) ≡ true → run_plan (impl_item_plan_after a) k ts m ≡ run_plan (impl_macro_plan a) k ts m
       words v e true c f x y z q = absurd (true≢false (sym q))
       words v e false true f x y z q = absurd (true≢false (sym q))
       words v e false false true x y z q = absurd (true≢false (sym q))
-      words v e false false false x y z q = happened k ts (went false ∷ went false ∷ went false ∷ went false ∷ went false ∷ []) (impl_item_plan_behind a) m (v, (e, (x, (y, (z, tt)))))
+      words v e false false false x y z q = happened k ts (went false ∷ went false ∷ went false ∷ went false ∷ went false ∷ []) (impl_item_plan_after a) m (v, (e, (x, (y, (z, tt)))))
 
       go : (w : Bool) → or (sees (at_word w_pub) m) (sees at_empty_group m) ≡ w → (e : Bool) → sees (at_word w_default) m ≡ e → pick w false (pick e (sees (ahead Before_macro) m) (no_member_word m)) ≡ true →
-          run_plan (impl_item_plan_behind a) k ts m ≡ run_plan (impl_macro_plan a) k ts m
+          run_plan (impl_item_plan_after a) k ts m ≡ run_plan (impl_macro_plan a) k ts m
       go true w e i q = absurd (true≢false (sym q))
-      go false w true i q = happened k ts (went false ∷ went true ∷ went true ∷ []) (impl_item_plan_behind a) m (sees_or (at_word w_pub) at_empty_group m ∙ w, (i, (q, tt)))
+      go false w true i q = happened k ts (went false ∷ went true ∷ went true ∷ []) (impl_item_plan_after a) m (sees_or (at_word w_pub) at_empty_group m ∙ w, (i, (q, tt)))
       go false w false i q = words (sees_or (at_word w_pub) at_empty_group m ∙ w) i (sees (at_word w_type) m) (sees (at_word w_const) m) (sees at_function m) refl refl refl q
 
   pub path_refused : impl_macro_next m ≡ true → sees at_no_macro_item m ≡ true → whole ≡ None
@@ -209,7 +209,7 @@ module _ (k : Rule) (ts : Stream) (a : Syntax) (m : Stream) where
   pub macro_refused : impl_macro_next m ≡ true → sees at_no_macro_item m ≡ false → wrap (Both a) (parse_rule member_macro m) ≡ None → whole ≡ None
   macro_refused g h e = macro_goes g ∙ read_on h ∙ attributed (parse_rule member_macro m) ∙ ap (wrap (λ s. Node (Case impl_macro_as_item (among_members s)))) e
 
--- A CONSTANT that is kept as tokens: with generics, without a value, or with a where clause
+-- A CONSTANT that is kept verbatim: with generics, without a value, or with a where clause
 module _ (k : Rule) (ts : Stream) (a v d c n : Syntax) (m r q : Stream) (word_read : parse_form (plainly (word w_const)) m ≡ Some (c, r)) (name_read : parse_form name_or_underscore r ≡ Some (n, q)) where
   pub generics_kept : sees at_less q ≡ true → OnlyKept k ts (run_plan (impl_const_or_kept a v d) k ts m)
   unfolding impl_const_plan kept_end
@@ -229,17 +229,17 @@ module _ (k : Rule) (ts : Stream) (a v d c n : Syntax) (m r q : Stream) (word_re
         is_kept k ts (took c r ∷ took n q ∷ went false ∷ took s q1 ∷ took t q2 ∷ went true ∷ took x q3 ∷ took e q4 ∷ went false ∷ marked ∷ []) (impl_const_or_kept a v d) m
         (word_read, (name_read, (no_less, (colon_read, (type_read, (h, (i, (j, (l, tt))))))))) (λ w. λ z. refl)
 
--- A TYPE: without `=` behind its generics it is kept as tokens
+-- A TYPE: without `=` after its generics it is kept verbatim
 module _ (k : Rule) (ts : Stream) (a v d : Syntax) (m : Stream) where
   abbrev typed : Out
   typed = run_plan (impl_type_plan a v d) k ts m
 
-  abbrev behind_head : Syntax → Plan
-  behind_head h = left_over (took (first h) m ∷ took (first (second h)) m ∷ took (second (second h)) m ∷ []) (impl_type_plan a v d)
+  abbrev after_head : Syntax → Plan
+  after_head h = left_over (took (first h) m ∷ took (first (second h)) m ∷ took (second (second h)) m ∷ []) (impl_type_plan a v d)
 
   pub head_refused : parse_form (plainly (word w_type) & plainly name & rule generics) m ≡ None → typed ≡ None
   unfolding impl_type_plan
-  head_refused e = row_refused k ts (plainly (word w_type)) (plainly name ∷ rule generics ∷ []) behind_head m e
+  head_refused e = row_refused k ts (plainly (word w_type)) (plainly name ∷ rule generics ∷ []) after_head m e
 
   module _ (t n g : Syntax) (q : Stream) (head : parse_form (plainly (word w_type) & plainly name & rule generics) m ≡ Some (Both t (Both n g), q)) where
     abbrev rest : Out
@@ -247,7 +247,7 @@ module _ (k : Rule) (ts : Stream) (a v d : Syntax) (m : Stream) where
 
     past_head : typed ≡ run_plan (left_over (took t m ∷ took n m ∷ took g m ∷ []) (impl_type_plan a v d)) k ts q
     unfolding impl_type_plan
-    past_head = row_read k ts (plainly (word w_type)) (plainly name ∷ rule generics ∷ []) behind_head m (Both t (Both n g)) q head
+    past_head = row_read k ts (plainly (word w_type)) (plainly name ∷ rule generics ∷ []) after_head m (Both t (Both n g)) q head
 
     pub type_kept : sees at_equals q ≡ false → OnlyKept k ts typed
     unfolding impl_type_plan kept_end

@@ -1,4 +1,4 @@
--- Impls and their members, read: generics where they stand, and parts that are read together.
+-- Impls and their members, read: generics if they are next, and parts that are read together.
 use Rattle.std.proofs.Common.{◌≡◌, true, Some, None, refl, sym, ap, ◌∙◌}
 use Rattle.std.specs.Prelude.{false, Result, Ok, Err}
 use Rattle.syn_grammar.specs.Words.{w_const, w_default, w_impl, w_type, w_unsafe}
@@ -15,10 +15,10 @@ use Rattle.syn_grammar.proofs.Looks.{sees_and}
 use Rattle.syn_grammar.proofs.Sets.{and_left}
 use Rattle.syn_grammar.proofs.Takes.{TreeAndRest}
 use Rattle.syn_lower.specs.Parts.{first}
-use Rattle.syn_item.specs.ImplForms.{behind_impl_form, impl_generics_form, member_marks_form, type_head_form, type_rest_form}
+use Rattle.syn_item.specs.ImplForms.{after_impl_form, impl_generics_form, member_marks_form, type_head_form, type_rest_form}
 use Rattle.syn_item.specs.Impls.{kept_list}
 
--- GENERICS, where they stand next: what the rule reads, without the mark that they aren't printed where they are empty
+-- GENERICS, where they are next: what the rule reads, without the mark that they aren't printed where they are empty
 
 shown_again : (o : Out) → wrap Left o ≡ wrap kept_list (wrap Node (vanish false (wrap Left o)))
 shown_again None = refl
@@ -67,7 +67,7 @@ module _ (p q rest : Stream → Out) (t : Syntax) (n : Stream) where
       second None e = absurd (cc e)
       second (Some y) e = third y.0 (q y.1) e
 
--- A TYPE OF AN IMPL, of what stands before its word, its head, and what stands behind that
+-- A TYPE OF AN IMPL, of what is before its word, its head, and what follows that
 
 module _ (m n q : Stream) (a v d t k g : Syntax) (marks_read : parse_form member_marks_form m ≡ Some (Both a (Both v d), n)) (head_read : parse_form type_head_form n ≡ Some (Both t (Both k g), q)) where
   abbrev type_of : Syntax → Syntax
@@ -93,12 +93,12 @@ pub type_read : {E : Type 0} (refusal : E → Type 0) (m n q : Stream) (a v d t 
 type_read refusal m n q a v d t k g i j (Ok x) new e = type_is m n q a v d t k g i j ∙ ap (wrap Node) e
 type_read refusal m n q a v d t k g i j (Err x) new e = λ r. type_is m n q a v d t k g i j ∙ ap (wrap Node) (e r)
 
--- AN IMPL, of what stands before its generics
+-- AN IMPL, of what is before its generics
 
 module _ (a d c u i : Syntax) (m m1 m2 m3 m4 : Stream) (default_read : parse_form (optional_item_word w_default) m ≡ Some (d, m1)) (const_read : parse_form (optional_item_word w_const) m1 ≡ Some (c, m2))
     (unsafe_read : parse_form (optional_item_word w_unsafe) m2 ≡ Some (u, m3)) (word_read : take_token (word w_impl) m3 ≡ Some (i, m4)) where
   abbrev from_word : Stream → Out
-  from_word z = and_then (take_token (word w_impl) z) (parse_form behind_impl_form)
+  from_word z = and_then (take_token (word w_impl) z) (parse_form after_impl_form)
 
   abbrev from_unsafe : Stream → Out
   from_unsafe z = and_then (parse_form (optional_item_word w_unsafe) z) from_word
@@ -106,14 +106,14 @@ module _ (a d c u i : Syntax) (m m1 m2 m3 m4 : Stream) (default_read : parse_for
   abbrev from_const : Stream → Out
   from_const z = and_then (parse_form (optional_item_word w_const) z) from_unsafe
 
-  definition_is : wrap (Both a) (parse_rule impl_definition_rest m) ≡ wrap (λ s. Both a (Node (Both d (Both c (Both u (Both i s)))))) (parse_form behind_impl_form m4)
+  definition_is : wrap (Both a) (parse_rule impl_definition_rest m) ≡ wrap (λ s. Both a (Node (Both d (Both c (Both u (Both i s)))))) (parse_form after_impl_form m4)
   definition_is =
       ap (wrap (Both a)) (impl_definition_rest_is m)
       ∙ ap (λ o. wrap (Both a) (wrap Node (and_then o from_const))) default_read
       ∙ ap (λ o. wrap (Both a) (wrap Node (wrap (Both d) (and_then o from_unsafe)))) const_read
       ∙ ap (λ o. wrap (Both a) (wrap Node (wrap (Both d) (wrap (Both c) (and_then o from_word))))) unsafe_read
-      ∙ ap (λ o. wrap (Both a) (wrap Node (wrap (Both d) (wrap (Both c) (wrap (Both u) (and_then o (parse_form behind_impl_form))))))) word_read
-      ∙ go (parse_form behind_impl_form m4)
+      ∙ ap (λ o. wrap (Both a) (wrap Node (wrap (Both d) (wrap (Both c) (wrap (Both u) (and_then o (parse_form after_impl_form))))))) word_read
+      ∙ go (parse_form after_impl_form m4)
     where
       go : (o : Out) → wrap (Both a) (wrap Node (wrap (Both d) (wrap (Both c) (wrap (Both u) (wrap (Both i) o))))) ≡ wrap (λ s. Both a (Node (Both d (Both c (Both u (Both i s)))))) o
       go None = refl
@@ -121,6 +121,6 @@ module _ (a d c u i : Syntax) (m m1 m2 m3 m4 : Stream) (default_read : parse_for
 
 pub definition_read : {E : Type 0} (refusal : E → Type 0) (a d c u i : Syntax) (m m1 m2 m3 m4 : Stream) → parse_form (optional_item_word w_default) m ≡ Some (d, m1) → parse_form (optional_item_word w_const) m1 ≡ Some (c, m2) →
     parse_form (optional_item_word w_unsafe) m2 ≡ Some (u, m3) → take_token (word w_impl) m3 ≡ Some (i, m4) → (x : Result Syntax E) (new : Stream) →
-    Computes refusal itself (wrap (λ s. Both a (Node (Both d (Both c (Both u (Both i s)))))) (parse_form behind_impl_form m4)) x new → Computes refusal itself (wrap (Both a) (parse_rule impl_definition_rest m)) x new
+    Computes refusal itself (wrap (λ s. Both a (Node (Both d (Both c (Both u (Both i s)))))) (parse_form after_impl_form m4)) x new → Computes refusal itself (wrap (Both a) (parse_rule impl_definition_rest m)) x new
 definition_read refusal a d c u i m m1 m2 m3 m4 h k l o (Ok x) new e = definition_is a d c u i m m1 m2 m3 m4 h k l o ∙ e
 definition_read refusal a d c u i m m1 m2 m3 m4 h k l o (Err x) new e = λ r. definition_is a d c u i m m1 m2 m3 m4 h k l o ∙ e r

@@ -18,25 +18,25 @@ use Rattle.syn_tokens.specs.Listing.{list_of}
 use Rattle.syn_tokens.specs.Lists.{Sequence, nothing_listed}
 use Rattle.syn_lower.specs.Parameters.{after}
 use Rattle.syn_lower.specs.Parts.{first, second}
-use Rattle.syn_item.specs.SignatureForms.{before_parameters, inputs_by, is_first, named_pattern, next_parameter, of_variadic, other_parameter, parameter_behind, parameters_behind, read_parameter, typed_as, with_attributes}
+use Rattle.syn_item.specs.SignatureForms.{before_parameters, inputs_by, is_first, named_pattern, next_parameter, of_variadic, other_parameter, parameter_after, parameters_after, read_parameter, typed_as, with_attributes}
 use Rattle.syn_item.specs.Signatures.{comma_behind, parameters_of, receiver_argument, syntax_of_FnArg}
 use Rattle.syn_item.specs.declared.sig.FnArg.TheVariants as FnArg-m
 use Rattle.syn_item.proofs.Supplied.{supplied_is, with_name}
 
--- what is behind a comma, or nothing
+-- what is after a comma, or nothing
 abbrev others : Grammar
 others = when at_comma then punctuation comma & rule later_inputs else empty
 
 abbrev typed_form : Grammar
 typed_form = when at_ellipsis then rule variadic else rule type & others
 
--- an answer behind attributes, as parameters
+-- a result after attributes, as parameters
 abbrev made : Syntax → Out → Out
 made a o = wrap Node (wrap (shape parameters) (wrap Right (wrap (Both a) o)))
 
 -- a parameter that was read, and what follows it
-behind_receiver : (a r : Syntax) (m : Stream) → made a (wrap Left (wrap (Both r) (parse_form others m))) ≡ parameters_behind (Left (Node (Both a (Left r)))) m
-behind_receiver a r m = go (sees at_comma m)
+after_receiver : (a r : Syntax) (m : Stream) → made a (wrap Left (wrap (Both r) (parse_form others m))) ≡ parameters_after (Left (Node (Both a (Left r)))) m
+after_receiver a r m = go (sees at_comma m)
   where
     more : (c : Syntax) (o : Out) → made a (wrap Left (wrap (Both r) (wrap Left (wrap (Both c) o)))) ≡ wrap (λ l. Node (more_members parameters (Node (Both a (Left r))) c l)) o
     more c None = refl
@@ -52,11 +52,11 @@ behind_receiver a r m = go (sees at_comma m)
     go false = refl
 
 module _ (a name : Syntax) where
-  -- as it stands behind its name
+  -- as it follows its name
   abbrev built : Out → Out
   built o = made a (wrap Right (wrap Node (wrap Right (wrap (with_name name) o))))
 
-  behind_type : (t : Syntax) (m : Stream) → built (wrap Right (wrap (Both t) (parse_form others m))) ≡ parameters_behind (Left (typed_as a name t)) m
+  behind_type : (t : Syntax) (m : Stream) → built (wrap Right (wrap (Both t) (parse_form others m))) ≡ parameters_after (Left (typed_as a name t)) m
   behind_type t m = go (sees at_comma m)
     where
       more : (c : Syntax) (o : Out) → built (wrap Right (wrap (Both t) (wrap Left (wrap (Both c) o)))) ≡ wrap (λ l. Node (more_members parameters (typed_as a name t) c l)) o
@@ -72,59 +72,59 @@ module _ (a name : Syntax) where
       go true = by_comma (take_mark comma m)
       go false = refl
 
-  behind_name : (m : Stream) → built (parse_form typed_form m) ≡ after (parameter_behind a name m) parameters_behind
-  unfolding parameter_behind
-  behind_name m = go (sees at_ellipsis m)
+  after_name : (m : Stream) → built (parse_form typed_form m) ≡ after (parameter_after a name m) parameters_after
+  unfolding parameter_after
+  after_name m = go (sees at_ellipsis m)
     where
-      last : (o : Out) → built (wrap Left o) ≡ after (wrap (λ v. Right (of_variadic a (Left (Both (first name) (second name))) v)) o) parameters_behind
+      last : (o : Out) → built (wrap Left o) ≡ after (wrap (λ v. Right (of_variadic a (Left (Both (first name) (second name))) v)) o) parameters_after
       last None = refl
       last (Some p) = refl
 
-      typed : (o : Out) → built (wrap Right (and_then o (parse_form others))) ≡ after (wrap (λ t. Left (typed_as a name t)) o) parameters_behind
+      typed : (o : Out) → built (wrap Right (and_then o (parse_form others))) ≡ after (wrap (λ t. Left (typed_as a name t)) o) parameters_after
       typed None = refl
       typed (Some p) = behind_type p.0 p.1
 
       go : (b : Bool) → built (branch b (parse_rule variadic m) (and_then (parse_rule type m) (parse_form others)))
-          ≡ after (pick b (wrap (λ v. Right (of_variadic a (Left (Both (first name) (second name))) v)) (parse_rule variadic m)) (wrap (λ t. Left (typed_as a name t)) (parse_rule type m))) parameters_behind
+          ≡ after (pick b (wrap (λ v. Right (of_variadic a (Left (Both (first name) (second name))) v)) (parse_rule variadic m)) (wrap (λ t. Left (typed_as a name t)) (parse_rule type m))) parameters_after
       go true = last (parse_rule variadic m)
       go false = typed (parse_rule type m)
 
 -- one that is no receiver
-other_is : (a : Syntax) (m : Stream) → made a (wrap Right (parse_rule input_rest m)) ≡ after (other_parameter a m) parameters_behind
+other_is : (a : Syntax) (m : Stream) → made a (wrap Right (parse_rule input_rest m)) ≡ after (other_parameter a m) parameters_after
 unfolding other_parameter
 other_is a m = ap (λ o. made a (wrap Right o)) (input_rest_is m) ∙ go (sees at_ellipsis m)
   where
-    last : (o : Out) → made a (wrap Right (wrap Node (wrap Left o))) ≡ after (wrap (λ v. Right (of_variadic a (Right Nothing) v)) o) parameters_behind
+    last : (o : Out) → made a (wrap Right (wrap Node (wrap Left o))) ≡ after (wrap (λ v. Right (of_variadic a (Right Nothing) v)) o) parameters_after
     last None = refl
     last (Some p) = refl
 
-    by_name : (o : Out) → made a (wrap Right (wrap Node (wrap Right (after o (λ name n. wrap (with_name name) (parse_form typed_form n)))))) ≡ after (after o (parameter_behind a)) parameters_behind
+    by_name : (o : Out) → made a (wrap Right (wrap Node (wrap Right (after o (λ name n. wrap (with_name name) (parse_form typed_form n)))))) ≡ after (after o (parameter_after a)) parameters_after
     by_name None = refl
-    by_name (Some p) = behind_name a p.0 p.1
+    by_name (Some p) = after_name a p.0 p.1
 
     go : (b : Bool) → made a (wrap Right (wrap Node (branch b (parse_rule variadic m) (parse_form (supplied Before_less (rule pattern) typed_form) m))))
-        ≡ after (pick b (wrap (λ v. Right (of_variadic a (Right Nothing) v)) (parse_rule variadic m)) (after (named_pattern m) (parameter_behind a))) parameters_behind
+        ≡ after (pick b (wrap (λ v. Right (of_variadic a (Right Nothing) v)) (parse_rule variadic m)) (after (named_pattern m) (parameter_after a))) parameters_after
     go true = last (parse_rule variadic m)
     go false = ap (λ o. made a (wrap Right (wrap Node (wrap Right o)))) (supplied_is typed_form m refl) ∙ by_name (named_pattern m)
 
--- A PARAMETER, AND THOSE BEHIND IT
+-- A PARAMETER, AND THOSE THAT FOLLOW IT
 
-first_step : (a : Syntax) (m : Stream) → made a (branch (sees at_receiver m) (and_then (parse_rule receiver_rest m) (parse_form others)) (parse_rule input_rest m)) ≡ after (next_parameter true a m) parameters_behind
+first_step : (a : Syntax) (m : Stream) → made a (branch (sees at_receiver m) (and_then (parse_rule receiver_rest m) (parse_form others)) (parse_rule input_rest m)) ≡ after (next_parameter true a m) parameters_after
 first_step a m = go (sees at_receiver m)
   where
-    received : (o : Out) → made a (wrap Left (and_then o (parse_form others))) ≡ after (wrap (λ s. Left (receiver_argument s)) (wrap (with_attributes a) o)) parameters_behind
+    received : (o : Out) → made a (wrap Left (and_then o (parse_form others))) ≡ after (wrap (λ s. Left (receiver_argument s)) (wrap (with_attributes a) o)) parameters_after
     received None = refl
-    received (Some p) = behind_receiver a p.0 p.1
+    received (Some p) = after_receiver a p.0 p.1
 
     go : (b : Bool) → made a (branch b (and_then (parse_rule receiver_rest m) (parse_form others)) (parse_rule input_rest m))
-        ≡ after (pick b (wrap (λ s. Left (receiver_argument s)) (wrap (with_attributes a) (parse_rule receiver_rest m))) (other_parameter a m)) parameters_behind
+        ≡ after (pick b (wrap (λ s. Left (receiver_argument s)) (wrap (with_attributes a) (parse_rule receiver_rest m))) (other_parameter a m)) parameters_after
     go true = received (parse_rule receiver_rest m)
     go false = other_is a m
 
-later_step : (a : Syntax) (m : Stream) → made a (branch (sees at_receiver m) None (parse_rule input_rest m)) ≡ after (next_parameter false a m) parameters_behind
+later_step : (a : Syntax) (m : Stream) → made a (branch (sees at_receiver m) None (parse_rule input_rest m)) ≡ after (next_parameter false a m) parameters_after
 later_step a m = go (sees at_receiver m)
   where
-    go : (b : Bool) → made a (branch b None (parse_rule input_rest m)) ≡ after (pick b None (other_parameter a m)) parameters_behind
+    go : (b : Bool) → made a (branch b None (parse_rule input_rest m)) ≡ after (pick b None (other_parameter a m)) parameters_after
     go true = refl
     go false = other_is a m
 
@@ -134,16 +134,16 @@ first_turn b x y e = ap (λ c. branch c x y) e
 second_turn : (b : Bool) (x y : Out) → b ≡ false → branch b x y ≡ wrap Right y
 second_turn b x y e = ap (λ c. branch c x y) e
 
-step : (first : Bool) (ts : Stream) → sees ended ts ≡ false → inputs_by first ts ≡ after (read_parameter first ts) parameters_behind
+step : (first : Bool) (ts : Stream) → sees ended ts ≡ false → inputs_by first ts ≡ after (read_parameter first ts) parameters_after
 unfolding read_parameter
 step true ts h = inputs_is ts ∙ ap (λ o. wrap Node (wrap (shape parameters) o)) (second_turn _ _ _ h) ∙ go (parse_rule attributes ts)
   where
-    go : (o : Out) → wrap Node (wrap (shape parameters) (wrap Right (and_then o (λ m. branch (sees at_receiver m) (and_then (parse_rule receiver_rest m) (parse_form others)) (parse_rule input_rest m))))) ≡ after (after o (next_parameter true)) parameters_behind
+    go : (o : Out) → wrap Node (wrap (shape parameters) (wrap Right (and_then o (λ m. branch (sees at_receiver m) (and_then (parse_rule receiver_rest m) (parse_form others)) (parse_rule input_rest m))))) ≡ after (after o (next_parameter true)) parameters_after
     go None = refl
     go (Some p) = first_step p.0 p.1
 step false ts h = later_inputs_is ts ∙ ap (λ o. wrap Node (wrap (shape parameters) o)) (second_turn _ _ _ h) ∙ go (parse_rule attributes ts)
   where
-    go : (o : Out) → wrap Node (wrap (shape parameters) (wrap Right (and_then o (λ m. branch (sees at_receiver m) None (parse_rule input_rest m))))) ≡ after (after o (next_parameter false)) parameters_behind
+    go : (o : Out) → wrap Node (wrap (shape parameters) (wrap Right (and_then o (λ m. branch (sees at_receiver m) None (parse_rule input_rest m))))) ≡ after (after o (next_parameter false)) parameters_after
     go None = refl
     go (Some p) = later_step p.0 p.1
 
@@ -159,7 +159,7 @@ Pairs = List (FnArg-m.the_data × Comma)
 abbrev listed : Pairs → Option FnArg-m.the_data → Syntax
 listed = list_of syntax_of_FnArg comma_syntax
 
--- behind the parameters before it, the list of all of them
+-- after the parameters before it, the list of all of them
 all_before : (l : Pairs) (last : Option FnArg-m.the_data) (behind : Syntax) → before_parameters l (Node (Shaped parameters (Both (listed [] last) behind))) ≡ Node (Shaped parameters (Both (listed l last) behind))
 all_before [] last behind = refl
 all_before (x ∷ l) last behind = ap (λ s. Node (more_members parameters (syntax_of_FnArg x.0) (comma_syntax x.1) s)) (all_before l last behind)
@@ -168,53 +168,53 @@ front_grows : (l : Pairs) (x : FnArg-m.the_data) (c : Comma) (s : Syntax) → be
 front_grows [] x c s = refl
 front_grows (y ∷ l) x c s = ap (λ t. Node (more_members parameters (syntax_of_FnArg y.0) (comma_syntax y.1) t)) (front_grows l x c s)
 
--- the last comma isn't added where one stands
+-- the last comma isn't added if there is one
 comma_stands : (l : Pairs) → comma_behind (listed l None) ≡ listed l None
 comma_stands [] = refl
 comma_stands (x ∷ l) = ap (λ s. Node (Right (Both (syntax_of_FnArg x.0) (Left (Both (comma_syntax x.1) s))))) (comma_stands l)
 
--- behind a parameter, by whether a comma stands next
+-- after a parameter, by whether a comma is next
 abbrev behind : Syntax → Stream → Bool → Out
 behind x m b = pick b (after (take_mark comma m) (λ sign n. wrap (λ t. Node (more_members parameters x sign t)) (parse_rule later_inputs n))) (Some (Node (one_member parameters x Nothing (Right Nothing)), m))
 
 module _ (l : Pairs) (ts : Stream) (goes_on : sees ended ts ≡ false) where
-  -- one more, and a comma behind it
+  -- one more, and a comma after it
   pub one_more : (x : FnArg-m.the_data) (c : Comma) (m r : Stream) → read_parameter (is_first {B = FnArg-m.the_data} l None) ts ≡ Some (Left (syntax_of_FnArg x), m) → sees at_comma m ≡ true → take_mark comma m ≡ Some (comma_syntax c, r) →
       wrap (before_parameters l) (inputs_by (is_first {B = FnArg-m.the_data} l None) ts) ≡ wrap (before_parameters (l ++ (x, c) ∷ [])) (inputs_by false r)
   one_more x c m r e h k =
-      ap (wrap (before_parameters l)) (step (is_first {B = FnArg-m.the_data} l None) ts goes_on ∙ ap (λ o. after o parameters_behind) e ∙ ap (behind (syntax_of_FnArg x) m) h ∙ ap (λ o. after o (λ sign n. wrap (λ t. Node (more_members parameters (syntax_of_FnArg x) sign t)) (parse_rule later_inputs n))) k)
+      ap (wrap (before_parameters l)) (step (is_first {B = FnArg-m.the_data} l None) ts goes_on ∙ ap (λ o. after o parameters_after) e ∙ ap (behind (syntax_of_FnArg x) m) h ∙ ap (λ o. after o (λ sign n. wrap (λ t. Node (more_members parameters (syntax_of_FnArg x) sign t)) (parse_rule later_inputs n))) k)
       ∙ wrap_wrap (before_parameters l) (λ t. Node (more_members parameters (syntax_of_FnArg x) (comma_syntax c) t)) (parse_rule later_inputs r)
       ∙ wrap_same _ _ (λ s. sym (front_grows l x c s)) (parse_rule later_inputs r)
 
-  -- one, and no comma where it has to stand
+  -- one, and no comma where it is needed
   pub no_comma : (x : FnArg-m.the_data) (m : Stream) → read_parameter (is_first {B = FnArg-m.the_data} l None) ts ≡ Some (Left (syntax_of_FnArg x), m) → sees at_comma m ≡ true → take_mark comma m ≡ None →
       wrap (before_parameters l) (inputs_by (is_first {B = FnArg-m.the_data} l None) ts) ≡ None
   no_comma x m e h k =
-      ap (wrap (before_parameters l)) (step (is_first {B = FnArg-m.the_data} l None) ts goes_on ∙ ap (λ o. after o parameters_behind) e ∙ ap (behind (syntax_of_FnArg x) m) h ∙ ap (λ o. after o (λ sign n. wrap (λ t. Node (more_members parameters (syntax_of_FnArg x) sign t)) (parse_rule later_inputs n))) k)
+      ap (wrap (before_parameters l)) (step (is_first {B = FnArg-m.the_data} l None) ts goes_on ∙ ap (λ o. after o parameters_after) e ∙ ap (behind (syntax_of_FnArg x) m) h ∙ ap (λ o. after o (λ sign n. wrap (λ t. Node (more_members parameters (syntax_of_FnArg x) sign t)) (parse_rule later_inputs n))) k)
 
   -- the last one, without a comma
   pub last_one : (x : FnArg-m.the_data) (m : Stream) → read_parameter (is_first {B = FnArg-m.the_data} l None) ts ≡ Some (Left (syntax_of_FnArg x), m) → sees at_comma m ≡ false →
       wrap (before_parameters l) (inputs_by (is_first {B = FnArg-m.the_data} l None) ts) ≡ Some (parameters_of (listed l (Some x)) (Right Nothing), m)
   last_one x m e h =
-      ap (wrap (before_parameters l)) (step (is_first {B = FnArg-m.the_data} l None) ts goes_on ∙ ap (λ o. after o parameters_behind) e ∙ ap (behind (syntax_of_FnArg x) m) h)
+      ap (wrap (before_parameters l)) (step (is_first {B = FnArg-m.the_data} l None) ts goes_on ∙ ap (λ o. after o parameters_after) e ∙ ap (behind (syntax_of_FnArg x) m) h)
       ∙ ap (λ s. Some (s, m)) (all_before l (Some x) (Right Nothing))
 
   -- a variadic one
   pub variadic_one : (v : Syntax) (m : Stream) → read_parameter (is_first {B = FnArg-m.the_data} l None) ts ≡ Some (Right v, m) →
       wrap (before_parameters l) (inputs_by (is_first {B = FnArg-m.the_data} l None) ts) ≡ Some (parameters_of (listed l None) (Left v), m)
   variadic_one v m e =
-      ap (wrap (before_parameters l)) (step (is_first {B = FnArg-m.the_data} l None) ts goes_on ∙ ap (λ o. after o parameters_behind) e)
+      ap (wrap (before_parameters l)) (step (is_first {B = FnArg-m.the_data} l None) ts goes_on ∙ ap (λ o. after o parameters_after) e)
       ∙ ap (λ s. Some (s, m)) (all_before l None (Left v) ∙ ap (λ s. Node (Shaped parameters (Both s (Left v)))) (sym (comma_stands l)))
 
   -- none
   pub none_more : read_parameter (is_first {B = FnArg-m.the_data} l None) ts ≡ None → wrap (before_parameters l) (inputs_by (is_first {B = FnArg-m.the_data} l None) ts) ≡ None
-  none_more e = ap (wrap (before_parameters l)) (step (is_first {B = FnArg-m.the_data} l None) ts goes_on ∙ ap (λ o. after o parameters_behind) e)
+  none_more e = ap (wrap (before_parameters l)) (step (is_first {B = FnArg-m.the_data} l None) ts goes_on ∙ ap (λ o. after o parameters_after) e)
 
 -- the end
 pub all_read : (l : Pairs) (ts : Stream) → sees ended ts ≡ true → wrap (before_parameters l) (inputs_by (is_first {B = FnArg-m.the_data} l None) ts) ≡ Some (parameters_of (listed l None) (Right Nothing), ts)
 all_read l ts h = ap (wrap (before_parameters l)) (at_end (is_first {B = FnArg-m.the_data} l None) ts h) ∙ ap (λ s. Some (s, ts)) (all_before l None (Right Nothing))
 
--- behind a comma none is the first
+-- after a comma none is the first
 pub later : (l : Pairs) (x : FnArg-m.the_data) (c : Comma) → is_first {B = FnArg-m.the_data} (l ++ (x, c) ∷ []) None ≡ false
 later [] x c = refl
 later (y ∷ l) x c = refl

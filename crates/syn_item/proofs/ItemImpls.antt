@@ -28,7 +28,7 @@ use Rattle.syn_item.proofs.FirstTypes.{at_bang_first, at_path_first, at_type_fir
 use Rattle.syn_item.proofs.Followed.{is_kept}
 use Rattle.syn_item.proofs.ForeignPlans.{no_clause_read}
 use Rattle.syn_item.proofs.ItemPlans.{plain_is}
-use Rattle.syn_item.proofs.ItemWords.{ReadWord, word_told}
+use Rattle.syn_item.proofs.ItemWords.{ReadWord, word_known}
 use Rattle.syn_item.proofs.NoSelfTypes.{left_as_read}
 use Rattle.syn_item.proofs.OtherTypes.{other_type}
 use Rattle.syn_item.proofs.PlanRows.{reads_row, row_is}
@@ -68,31 +68,31 @@ module _ (k : Rule) (ts : Stream) (a : Syntax) (m : Stream) (at_default : defaul
     abbrev consts : Syntax → Out → Out
     consts d o = follow (λ c q. follow (λ u n. run_plan (impl_plan a d c u) k ts n) (parse_form (optional_item_word w_unsafe) q)) o
 
-    behind_default : default_run ≡ consts d (parse_form (optional_item_word w_const) r)
-    behind_default =
-        let (x, q, e) = word_told w_default m d r here read in
+    after_default : default_run ≡ consts d (parse_form (optional_item_word w_const) r)
+    after_default =
+        let (x, q, e) = word_known w_default m d r here read in
         ap (follow (λ d r. consts (Left d) (parse_form (optional_item_word w_const) r))) e ∙ ap (λ z. consts z (parse_form (optional_item_word w_const) r)) (sym q)
 
     pub const_refused : parse_form (optional_item_word w_const) r ≡ None → default_run ≡ None
-    const_refused e = behind_default ∙ ap (consts d) e
+    const_refused e = after_default ∙ ap (consts d) e
 
     module _ (c : Syntax) (q : Stream) (const_read : parse_form (optional_item_word w_const) r ≡ Some (c, q)) where
       abbrev unsafes : Out → Out
       unsafes o = follow (λ u n. run_plan (impl_plan a d c u) k ts n) o
 
       pub unsafe_refused : parse_form (optional_item_word w_unsafe) q ≡ None → default_run ≡ None
-      unsafe_refused e = behind_default ∙ ap (consts d) const_read ∙ ap unsafes e
+      unsafe_refused e = after_default ∙ ap (consts d) const_read ∙ ap unsafes e
 
       module _ (u : Syntax) (n : Stream) (unsafe_read : parse_form (optional_item_word w_unsafe) q ≡ Some (u, n)) where
-        behind_unsafe : default_run ≡ run_plan (impl_plan a d c u) k ts n
-        behind_unsafe = behind_default ∙ ap (consts d) const_read ∙ ap unsafes unsafe_read
+        after_unsafe : default_run ≡ run_plan (impl_plan a d c u) k ts n
+        after_unsafe = after_default ∙ ap (consts d) const_read ∙ ap unsafes unsafe_read
 
         pub impl_refused : take_token (word w_impl) n ≡ None → default_run ≡ None
-        impl_refused e = behind_unsafe ∙ word_refused k ts a d c u n e
+        impl_refused e = after_unsafe ∙ word_refused k ts a d c u n e
 
         pub default_follows : {X E : Type 0} (refusal : E → Type 0) (view : X → Syntax) (x : Result (Option X) E) (new : Stream) (w : Syntax) (z : Stream) → take_token (word w_impl) n ≡ Some (w, z) →
             Follows refusal view k ts (run_plan (impl_generics a d c u w) k ts z) x new → Follows refusal view k ts default_run x new
-        default_follows refusal view x new w z e f = subst (λ (o : Out). Follows refusal view k ts o x new) (sym behind_unsafe) (word_follows k ts a d c u n refusal view x new w z e f)
+        default_follows refusal view x new w z e f = subst (λ (o : Out). Follows refusal view k ts o x new) (sym after_unsafe) (word_follows k ts a d c u n refusal view x new w z e f)
 
 -- GENERICS, or none
 
@@ -133,7 +133,7 @@ module _ (k : Rule) (ts : Stream) (a d c u w : Syntax) (m : Stream) where
 
 -- THE FIRST TYPES
 
--- what stands past a `!` that was read
+-- the tokens after a `!` that was read
 past_bang : (m : Stream) (p : Syntax × Stream) → take_mark exclamation m ≡ Some p → past m ≡ p.1
 unfolding take_mark
 past_bang end p e = absurd (cc e)
@@ -196,8 +196,8 @@ module _ (k : Rule) (ts : Stream) (a d c u w g : Syntax) (m : Stream) where
       (by_test c (run_plan (reads_row (rule type_path) (rule for_self_type ∷ rule impl_body ∷ []) (λ s. ends (an_impl (Left (Both x (Right s)))))) k ts r)
       (follow (λ t n. follow (λ f z. follow (λ y q. Some (kept_as k ts q, q)) (parse_rule impl_body z)) (parse_rule for_self_type n)) (parse_rule type r)))
 
-  abbrev behind_bang : Out → Out
-  behind_bang o = follow (λ x r. negative x r (sees at_brace r) (sees at_module_path r)) o
+  abbrev after_bang : Out → Out
+  after_bang o = follow (λ x r. negative x r (sees at_brace r) (sees at_module_path r)) o
 
   abbrev bang_form : Grammar
   bang_form = when at_brace then rule impl_body else rule type_path & rule for_self_type & rule impl_body
@@ -216,18 +216,18 @@ module _ (k : Rule) (ts : Stream) (a d c u w g : Syntax) (m : Stream) where
       never x None = refl
       never x (Some p) = refl
 
-      trait_behind : (x : Syntax) (o : Out) → follow (λ s z. Some (an_impl (Left (Both x (Right s))), z)) o ≡ wrap an_impl (wrap Left (wrap (Both x) (wrap Right o)))
-      trait_behind x None = refl
-      trait_behind x (Some p) = refl
+      trait_after : (x : Syntax) (o : Out) → follow (λ s z. Some (an_impl (Left (Both x (Right s))), z)) o ≡ wrap an_impl (wrap Left (wrap (Both x) (wrap Right o)))
+      trait_after x None = refl
+      trait_after x (Some p) = refl
 
       by_brace : (x : Syntax) (r : Stream) (b c : Bool) → sees at_brace r ≡ b → and (no b) (no c) ≡ false → negative x r b c ≡ wrap an_impl (wrap Left (wrap (Both x) (branch b (parse_rule impl_body r) (parse_form (rule type_path & rule for_self_type & rule impl_body) r))))
       by_brace x r true c e i = never x (parse_rule impl_body r)
       by_brace x r false true e i =
           row_is k ts (rule type_path) (rule for_self_type ∷ rule impl_body ∷ []) (λ s. ends (an_impl (Left (Both x (Right s))))) r
-          ∙ trait_behind x (parse_form (rule type_path & rule for_self_type & rule impl_body) r)
+          ∙ trait_after x (parse_form (rule type_path & rule for_self_type & rule impl_body) r)
       by_brace x r false false e i = absurd (true≢false i)
 
-      go : (o : Out) → take_mark exclamation m ≡ o → behind_bang o ≡ wrap an_impl (wrap Left (and_then o (parse_form bang_form)))
+      go : (o : Out) → take_mark exclamation m ≡ o → after_bang o ≡ wrap an_impl (wrap Left (and_then o (parse_form bang_form)))
       go None e = refl
       go (Some p) e =
           by_brace p.0 p.1 (sees at_brace p.1) (sees at_module_path p.1) refl
@@ -325,7 +325,7 @@ module _ (k : Rule) (ts : Stream) (a d c u w g : Syntax) (m : Stream) where
       pub end_refused : sees at_for q ≡ false → ended ≡ None → first ≡ None
       end_refused n e = first_goes n ∙ at_last (parse_rule impl_body q) ∙ ap (wrap (λ t. Node (Case impl_definition t))) e
 
--- `impl` BEHIND NOTHING, or behind a visibility
+-- `impl` ALONE, or after a visibility
 
 module _ (k : Rule) (ts : Stream) (p : Place) (a : Syntax) (m : Stream) where
   pub visible_kept : no_visibility p ≡ false → OnlyKept k ts (run_plan (bare_impl_plan p a) k ts m)
@@ -362,7 +362,7 @@ module _ (k : Rule) (ts : Stream) (p : Place) (a : Syntax) (m : Stream) where
         unfolding bare_impl_plan
         generics_follow h = subst Goes (sym (ap bare (plain_is p is_plain) ∙ happened k ts (took w r ∷ went false ∷ went false ∷ []) (bare_impl_plan plain a) m (word_read, (no_restriction, (h, tt)))))
 
--- PARENTHESES that hold one word, behind `impl`
+-- PARENTHESES that hold one word, after `impl`
 
 module _ (k : Rule) (ts : Stream) (a d c u w : Syntax) (m : Stream) where
   abbrev lone : Out

@@ -12,7 +12,7 @@ use Rattle.syn_grammar.specs.Plan.{Plan, ends, by_test, follow, run_plan}
 use Rattle.syn_grammar.specs.ItemPlan.{enum_plan, hidden, module_plan, struct_plan, trait_end, trait_plan, union_plan}
 use Rattle.syn_item.proofs.PlanRows.{row_is}
 
--- an item of this kind, of its attributes, its visibility and what stands behind it
+-- an item of this kind, of its attributes, its visibility and what follows it
 abbrev pub of_visible : Rule → Syntax → Syntax → Out → Out
 of_visible c a v o = wrap (λ t. Node (Case c t)) (wrap (λ s. Both a (Node (Both v s))) o)
 
@@ -39,7 +39,7 @@ module _ (k : Rule) (ts : Stream) (a v : Syntax) (m : Stream) where
       row_is k ts (item_word w_union) (plainly name ∷ rule generics ∷ rule where_clause ∷ rule fields_named ∷ []) (λ s. ends (Node (Case union_item (Both a (Node (Both v s)))))) m
       ∙ visible union_item a v (parse_form (plainly (word w_union) & plainly name & rule generics & rule where_clause & rule fields_named) m)
 
-  -- MODULES, behind `unsafe` or without it
+  -- MODULES, after `unsafe` or without it
 
   module _ (u : Syntax) where
     abbrev content_form : Grammar
@@ -112,7 +112,7 @@ module _ (k : Rule) (ts : Stream) (a v : Syntax) (m : Stream) where
         (λ s. ends (Node (Case trait_definition (trait_value s)))) m
         ∙ traits (parse_form (optional_item_word w_auto & plainly (word w_trait) & plainly name & rule generics & ending_form) m)
 
-    -- behind generics
+    -- after generics
     module _ (o w n g : Syntax) where
       ended : (x : Out) → follow (λ s r. Some (Node (Case trait_definition (trait_value (Both o (Both w (Both n (Both g s)))))), r)) x ≡ wrap (λ t. Node (Case trait_definition t)) (wrap (λ s. trait_value (Both o (Both w (Both n (Both g s))))) x)
       ended None = refl

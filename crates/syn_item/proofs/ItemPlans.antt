@@ -1,4 +1,4 @@
--- The plan of items, by what stands next.
+-- The plan of items, by the next token.
 use Rattle.std.proofs.Common.{◌≡◌, Bool, true, false, List, [], ◌∷◌, Some, None, refl, sym, ap, subst, ◌∙◌, true≢false}
 use Rattle.std.specs.Prelude.{Option, Result}
 use Rattle.syn_grammar.specs.Words.{colon, equals, exclamation, semicolon, w_async, w_auto, w_const, w_default, w_enum, w_extern, w_fn, w_impl, w_macro, w_mod, w_mut, w_pub, w_static, w_struct, w_trait, w_try, w_type, w_union, w_unsafe, w_use}
@@ -20,7 +20,7 @@ use Rattle.syn_item.proofs.ImplPlans.{none_written}
 use Rattle.syn_item.proofs.ItemKinds.{enum_goes, module_goes, struct_goes, union_goes}
 use Rattle.syn_item.proofs.PlanRows.{row_is}
 
--- BEHIND THE ATTRIBUTES
+-- AFTER THE ATTRIBUTES
 
 module _ (k : Rule) (ts : Stream) (a : Syntax) (m : Stream) where
   abbrev placed : Out
@@ -48,7 +48,7 @@ module _ (k : Rule) (ts : Stream) (a : Syntax) (m : Stream) where
   place_follows refusal view x new v n p e h f =
       subst (λ (o : Out). Follows refusal view k ts o x new) (ap (λ (z : Place). run_plan (behind_visibility z a v) k ts n) h ∙ sym (placed_goes ∙ ap (by_place (place_next m)) e)) f
 
--- BEHIND THE VISIBILITY
+-- AFTER THE VISIBILITY
 
 module _ (k : Rule) (ts : Stream) (p : Place) (a v : Syntax) (m : Stream) where
   abbrev run : Out
@@ -244,7 +244,7 @@ module _ (k : Rule) (ts : Stream) (p : Place) (a : Syntax) (m : Stream) (is_plai
   pub macro_refused : default_next m ≡ false → wrap (Both a) (parse_rule macro_as_item_rest m) ≡ None → run_plan (other_plan p a) k ts m ≡ None
   macro_refused h e = macro_goes h ∙ ap (wrap (λ t. Node (Case macro_as_item t))) e
 
--- FUNCTIONS: without a body they are kept as tokens
+-- FUNCTIONS: without a body they are kept verbatim
 
 module _ (k : Rule) (ts : Stream) (a v s : Syntax) (m r : Stream) (sig : parse_rule signature m ≡ Some (s, r)) where
   abbrev function_run : Out
@@ -274,7 +274,7 @@ module _ (k : Rule) (ts : Stream) (a v s : Syntax) (m r : Stream) (sig : parse_r
 pub signature_refused : (k : Rule) (ts : Stream) (a v : Syntax) (m : Stream) → parse_rule signature m ≡ None → run_plan (function_turn a v) k ts m ≡ None
 signature_refused k ts a v m e = ap (follow (λ s r. run_plan (function_end a v s) k ts r)) e
 
--- A STATIC that is kept as tokens: without a type, or without a value
+-- A STATIC that is kept verbatim: without a type, or without a value
 
 module _ (k : Rule) (ts : Stream) (a v w u n : Syntax) (m m1 m2 m3 : Stream) (word_read : parse_form (item_word w_static) m ≡ Some (w, m1)) (mut_read : parse_form (optional w_mut) m1 ≡ Some (u, m2)) (name_read : parse_form (plainly name) m2 ≡ Some (n, m3)) where
   pub untyped_kept : sees at_colon m3 ≡ false → OnlyKept k ts (run_plan (static_plan a v) k ts m)
@@ -286,7 +286,7 @@ module _ (k : Rule) (ts : Stream) (a v w u n : Syntax) (m m1 m2 m3 : Stream) (wo
   unvalued_kept c t m4 m5 h i j l =
       is_kept k ts (took w m1 ∷ took u m2 ∷ took n m3 ∷ went true ∷ took c m4 ∷ took t m5 ∷ went false ∷ marked ∷ []) (static_plan a v) m (word_read, (mut_read, (name_read, (h, (i, (j, (l, tt))))))) (λ z. refl)
 
--- A CONSTANT that is kept as tokens: with generics, without a value, or with a where clause
+-- A CONSTANT that is kept verbatim: with generics, without a value, or with a where clause
 
 module _ (k : Rule) (ts : Stream) (a v c n : Syntax) (m r q : Stream) (word_read : parse_form (item_word w_const) m ≡ Some (c, r)) (name_read : parse_form name_or_underscore r ≡ Some (n, q)) where
   pub generics_kept : sees at_less q ≡ true → OnlyKept k ts (run_plan (const_or_kept_turn a v) k ts m)

@@ -39,20 +39,20 @@ abbrev named_form : Grammar
 named_form = plainly (word w_trait) & plainly name & rule generics
 
 module _ (k : Rule) (ts : Stream) (a v : Syntax) (m : Stream) where
-  abbrev behind_name : Syntax → Plan
-  behind_name h = left_over (took (first h) m ∷ took (first (second h)) m ∷ took (second (second h)) m ∷ []) (trait_or_alias a v)
+  abbrev after_name : Syntax → Plan
+  after_name h = left_over (took (first h) m ∷ took (first (second h)) m ∷ took (second (second h)) m ∷ []) (trait_or_alias a v)
 
   pub head_refused : parse_form named_form m ≡ None → run_plan (trait_or_alias a v) k ts m ≡ None
   unfolding trait_or_alias
-  head_refused e = row_refused k ts (plainly (word w_trait)) (plainly name ∷ rule generics ∷ []) behind_name m e
+  head_refused e = row_refused k ts (plainly (word w_trait)) (plainly name ∷ rule generics ∷ []) after_name m e
 
   module _ (w n g : Syntax) (q : Stream) (head : parse_form named_form m ≡ Some (Both w (Both n g), q)) where
     abbrev run : Out
     run = run_plan (trait_or_alias a v) k ts m
 
-    past_name : run ≡ run_plan (behind_name (Both w (Both n g))) k ts q
+    past_name : run ≡ run_plan (after_name (Both w (Both n g))) k ts q
     unfolding trait_or_alias
-    past_name = row_read k ts (plainly (word w_trait)) (plainly name ∷ rule generics ∷ []) behind_name m (Both w (Both n g)) q head
+    past_name = row_read k ts (plainly (word w_trait)) (plainly name ∷ rule generics ∷ []) after_name m (Both w (Both n g)) q head
 
     abbrev alias_out : Out
     alias_out = wrap (λ s. Both a (Node (Both v (Node (Both w (Both n (Both g s))))))) (parse_form alias_form q)
@@ -65,7 +65,7 @@ module _ (k : Rule) (ts : Stream) (a v : Syntax) (m : Stream) where
     unfolding trait_or_alias
     alias_goes h =
         past_name
-        ∙ happened k ts (went true ∷ []) (behind_name (Both w (Both n g))) q (h, tt)
+        ∙ happened k ts (went true ∷ []) (after_name (Both w (Both n g))) q (h, tt)
         ∙ row_is k ts (punctuation equals) (rule alias_bounds ∷ rule where_clause ∷ punctuation semicolon ∷ []) (λ s. ends (Node (Case trait_alias (Both a (Node (Both v (Node (Both w (Both n (Both g s)))))))))) q
         ∙ aliases (parse_form alias_form q)
 
@@ -82,7 +82,7 @@ module _ (k : Rule) (ts : Stream) (a v : Syntax) (m : Stream) where
     unfolding trait_or_alias
     ending_goes h =
         past_name
-        ∙ happened k ts (went false ∷ []) (behind_name (Both w (Both n g))) q (h, tt)
+        ∙ happened k ts (went false ∷ []) (after_name (Both w (Both n g))) q (h, tt)
         ∙ trait_end_goes k ts a v q absent absent absent w n g
 
     pub named_read : sees at_equals q ≡ false → (t : Syntax) (r : Stream) → trait_out ≡ Some (t, r) → run ≡ Some (Node (Case trait_definition t), r)
@@ -91,27 +91,27 @@ module _ (k : Rule) (ts : Stream) (a v : Syntax) (m : Stream) where
     pub named_refused : sees at_equals q ≡ false → trait_out ≡ None → run ≡ None
     named_refused h e = ending_goes h ∙ ap (wrap (λ t. Node (Case trait_definition t))) e
 
--- BEHIND `const` an alias is kept as tokens
+-- AFTER `const` an alias is kept verbatim
 
 module _ (k : Rule) (ts : Stream) (a v c : Syntax) (m : Stream) where
-  abbrev behind_const_name : Syntax → Plan
-  behind_const_name h = left_over (took (first h) m ∷ took (first (second h)) m ∷ took (second (second h)) m ∷ []) (const_trait_or_alias a v c)
+  abbrev after_const_name : Syntax → Plan
+  after_const_name h = left_over (took (first h) m ∷ took (first (second h)) m ∷ took (second (second h)) m ∷ []) (const_trait_or_alias a v c)
 
   pub const_head_refused : parse_form named_form m ≡ None → run_plan (const_trait_or_alias a v c) k ts m ≡ None
   unfolding const_trait_or_alias
-  const_head_refused e = row_refused k ts (plainly (word w_trait)) (plainly name ∷ rule generics ∷ []) behind_const_name m e
+  const_head_refused e = row_refused k ts (plainly (word w_trait)) (plainly name ∷ rule generics ∷ []) after_const_name m e
 
   module _ (w n g : Syntax) (q : Stream) (head : parse_form named_form m ≡ Some (Both w (Both n g), q)) where
     abbrev const_run : Out
     const_run = run_plan (const_trait_or_alias a v c) k ts m
 
-    past_const_name : const_run ≡ run_plan (behind_const_name (Both w (Both n g))) k ts q
+    past_const_name : const_run ≡ run_plan (after_const_name (Both w (Both n g))) k ts q
     unfolding const_trait_or_alias
-    past_const_name = row_read k ts (plainly (word w_trait)) (plainly name ∷ rule generics ∷ []) behind_const_name m (Both w (Both n g)) q head
+    past_const_name = row_read k ts (plainly (word w_trait)) (plainly name ∷ rule generics ∷ []) after_const_name m (Both w (Both n g)) q head
 
     pub alias_kept : sees at_equals q ≡ true → OnlyKept k ts const_run
     unfolding const_trait_or_alias kept_end
-    alias_kept h = subst (OnlyKept k ts) (sym past_const_name) (is_kept k ts (went true ∷ marked ∷ []) (behind_const_name (Both w (Both n g))) q (h, tt) (λ e. λ b. λ x. λ z. refl))
+    alias_kept h = subst (OnlyKept k ts) (sym past_const_name) (is_kept k ts (went true ∷ marked ∷ []) (after_const_name (Both w (Both n g))) q (h, tt) (λ e. λ b. λ x. λ z. refl))
 
     abbrev const_out : Out
     const_out = wrap (λ s. Both a (Node (Both v (Both c (Node (Both (Right Nothing) (Both (Right Nothing) (Both w (Both n (Both g s)))))))))) (parse_form ending_form q)
@@ -120,7 +120,7 @@ module _ (k : Rule) (ts : Stream) (a v c : Syntax) (m : Stream) where
     unfolding const_trait_or_alias
     const_goes h =
         past_const_name
-        ∙ happened k ts (went false ∷ []) (behind_const_name (Both w (Both n g))) q (h, tt)
+        ∙ happened k ts (went false ∷ []) (after_const_name (Both w (Both n g))) q (h, tt)
         ∙ trait_end_goes k ts a v q c absent absent w n g
 
     pub const_read : sees at_equals q ≡ false → (t : Syntax) (r : Stream) → const_out ≡ Some (t, r) → const_run ≡ Some (Node (Case trait_definition t), r)

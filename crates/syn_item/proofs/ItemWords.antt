@@ -22,12 +22,12 @@ use Rattle.syn_item.proofs.ItemKinds.{module_goes}
 use Rattle.syn_item.proofs.MemberFunctions.{past_word}
 use Rattle.syn_item.proofs.PlanRows.{row_is}
 
--- a word that stands next, as it is read where it may be absent
+-- a word that is next, as it is read where it may be absent
 abbrev pub ReadWord : Text → Syntax → Stream → Stream → Type 0
 ReadWord w u m r = (x : Syntax) × (u ≡ Left x) × (take_token (word w) m ≡ Some (x, r))
 
-pub word_told : (w : Text) (m : Stream) (u : Syntax) (r : Stream) → sees (at_word w) m ≡ true → parse_form (optional_item_word w) m ≡ Some (u, r) → ReadWord w u m r
-word_told w m u r h e = go (take_token (word w) m) refl (sym (ap (λ b. branch b (take_token (word w) m) (Some (Nothing, m))) h) ∙ e)
+pub word_known : (w : Text) (m : Stream) (u : Syntax) (r : Stream) → sees (at_word w) m ≡ true → parse_form (optional_item_word w) m ≡ Some (u, r) → ReadWord w u m r
+word_known w m u r h e = go (take_token (word w) m) refl (sym (ap (λ b. branch b (take_token (word w) m) (Some (Nothing, m))) h) ∙ e)
   where
     go : (o : Out) → take_token (word w) m ≡ o → wrap Left o ≡ Some (u, r) → ReadWord w u m r
     go None q i = absurd (cc i)
@@ -60,15 +60,15 @@ module _ (k : Rule) (ts : Stream) (p : Place) (a v : Syntax) (m : Stream) where
       row_is k ts (plainly (word w_crate)) (plainly (name_or (w_self ∷ [])) ∷ rename_form ∷ punctuation semicolon ∷ []) (λ s. ends (Node (Case extern_crate (Both a (Node (Both v (Both e s))))))) r
       ∙ crates e (parse_form crate_end r)
 
-  abbrev behind_extern : Syntax → Stream → Bool → Out
-  behind_extern e r b = by_test b (run_plan (extern_crate_plan a v e) k ts r) (run_plan (extern_plan p a v absent (Node absent) e) k ts r)
+  abbrev after_extern : Syntax → Stream → Bool → Out
+  after_extern e r b = by_test b (run_plan (extern_crate_plan a v e) k ts r) (run_plan (extern_plan p a v absent (Node absent) e) k ts r)
 
   crate_goes : sees (at_word w_crate) (past m) ≡ true → extern_run ≡ of_crate (parse_form (plainly (word w_extern) & crate_end) m)
   crate_goes h = go (take_token (word w_extern) m) refl
     where
-      go : (o : Out) → take_token (word w_extern) m ≡ o → follow (λ e r. behind_extern e r (sees (at_word w_crate) r)) o ≡ of_crate (and_then o (parse_form crate_end))
+      go : (o : Out) → take_token (word w_extern) m ≡ o → follow (λ e r. after_extern e r (sees (at_word w_crate) r)) o ≡ of_crate (and_then o (parse_form crate_end))
       go None e = refl
-      go (Some q) e = ap (behind_extern q.0 q.1) (ap (sees (at_word w_crate)) (sym (past_word w_extern m q e)) ∙ h) ∙ crate_plan_goes q.0 q.1
+      go (Some q) e = ap (after_extern q.0 q.1) (ap (sees (at_word w_crate)) (sym (past_word w_extern m q e)) ∙ h) ∙ crate_plan_goes q.0 q.1
 
   pub crate_read : sees (at_word w_crate) (past m) ≡ true → (t : Syntax) (r : Stream) → wrap (λ s. Both a (Node (Both v s))) (parse_form (plainly (word w_extern) & crate_end) m) ≡ Some (t, r) → extern_run ≡ Some (Node (Case extern_crate t), r)
   crate_read h t r e = crate_goes h ∙ ap (wrap (λ t. Node (Case extern_crate t))) e
@@ -79,21 +79,21 @@ module _ (k : Rule) (ts : Stream) (p : Place) (a v : Syntax) (m : Stream) where
   no_crate_goes : sees at_extern m ≡ true → sees (at_word w_crate) (past m) ≡ false → extern_run ≡ run_plan (module_or_function_turn p a v) k ts m
   no_crate_goes x h = go (take_token (word w_extern) m) refl ∙ sym (happened k ts (went true ∷ []) (module_or_function_turn p a v) m (x, tt))
     where
-      go : (o : Out) → take_token (word w_extern) m ≡ o → follow (λ e r. behind_extern e r (sees (at_word w_crate) r)) o ≡ follow (λ e r. run_plan (extern_plan p a v absent (Node absent) e) k ts r) o
+      go : (o : Out) → take_token (word w_extern) m ≡ o → follow (λ e r. after_extern e r (sees (at_word w_crate) r)) o ≡ follow (λ e r. run_plan (extern_plan p a v absent (Node absent) e) k ts r) o
       go None e = refl
-      go (Some q) e = ap (behind_extern q.0 q.1) (ap (sees (at_word w_crate)) (sym (past_word w_extern m q e)) ∙ h)
+      go (Some q) e = ap (after_extern q.0 q.1) (ap (sees (at_word w_crate)) (sym (past_word w_extern m q e)) ∙ h)
 
   pub no_crate_follows : {X E : Type 0} (refusal : E → Type 0) (view : X → Syntax) (x : Result (Option X) E) (new : Stream) → sees at_extern m ≡ true → sees (at_word w_crate) (past m) ≡ false →
       Follows refusal view k ts (run_plan (module_or_function_turn p a v) k ts m) x new → Follows refusal view k ts extern_run x new
   no_crate_follows refusal view x new e h f = subst (λ (o : Out). Follows refusal view k ts o x new) (sym (no_crate_goes e h)) f
 
--- BEHIND `unsafe`
+-- AFTER `unsafe`
 
 module _ (k : Rule) (ts : Stream) (p : Place) (a v : Syntax) (m : Stream) (at_unsafe : sees (at_word w_unsafe) m ≡ true) where
   abbrev unsafe_run : Out
   unsafe_run = run_plan (unsafe_turn p a v) k ts m
 
-  -- whether a module, or a trait, stands next
+  -- whether a module, or a trait, is next
   abbrev kinds : Syntax → Stream → Bool → Bool → Out
   kinds u r b c = by_test b (run_plan (module_plan a v (Left u)) k ts r) (by_test c (run_plan (trait_plan a v absent (Left u)) k ts r) (run_plan (unsafe_plan p a v u) k ts r))
 
@@ -107,7 +107,7 @@ module _ (k : Rule) (ts : Stream) (p : Place) (a v : Syntax) (m : Stream) (at_un
 
   module _ (u : Syntax) (r : Stream) (read : parse_form (optional_item_word w_unsafe) m ≡ Some (u, r)) where
     told : ReadWord w_unsafe u m r
-    told = word_told w_unsafe m u r at_unsafe read
+    told = word_known w_unsafe m u r at_unsafe read
 
     abbrev module_out : Out
     module_out =

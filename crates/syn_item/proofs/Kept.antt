@@ -1,4 +1,4 @@
--- Where a plan has come to its mark: what it reads from there is kept as tokens, or it reads nothing.
+-- Where a plan has come to its mark: what it reads from there is kept verbatim, or it reads nothing.
 use Rattle.std.proofs.Common.{◌≡◌, Bool, true, false, Some, None, refl, ap, ◌∙◌, true≢false}
 use Rattle.syn_grammar.specs.Tokens.{Stream}
 use Rattle.syn_grammar.specs.Rules.{Rule}

@@ -1,4 +1,4 @@
--- Functions, as plans read them: behind `const` a signature goes on; a trait's function ends with `;` or a body.
+-- Functions, as plans read them: after `const` a signature continues; a trait's function ends with `;` or a body.
 use Rattle.std.proofs.Common.{◌≡◌, Bool, true, false, [], ◌∷◌, Some, None, refl, sym, ap, ◌∙◌}
 use Rattle.syn_grammar.specs.Words.{Text, w_async, w_const, semicolon}
 use Rattle.syn_grammar.specs.Tokens.{Stream, at_word}
@@ -15,7 +15,7 @@ use Rattle.syn_grammar.proofs.Each.{bare_trait_function_is, signature_is}
 use Rattle.syn_grammar.proofs.Takes.{token_told}
 use Rattle.syn_parse.specs.Peeks.{past}
 
--- what stands past a word that was read
+-- the tokens after a word that was read
 pub past_word : (w : Text) (ts : Stream) (p : Syntax × Stream) → take_token (word w) ts ≡ Some p → past ts ≡ p.1
 past_word w ts p e =
     let (y, sp, a, b, c) = token_told (word w) ts p e in
@@ -24,8 +24,8 @@ past_word w ts p e =
 abbrev abi_form : Grammar
 abi_form = when at_extern then rule abi else empty
 
-abbrev behind_const_form : Grammar
-behind_const_form = optional_item_word w_async & rule unsafe_only & abi_form & rule signature_rest
+abbrev after_const_form : Grammar
+after_const_form = optional_item_word w_async & rule unsafe_only & abi_form & rule signature_rest
 
 module _ (k : Rule) (ts : Stream) (f : Syntax → Plan) where
   -- what follows a signature that was read
@@ -64,22 +64,22 @@ module _ (k : Rule) (ts : Stream) (f : Syntax → Plan) where
     async_goes None = refl
     async_goes (Some p) = unsafe_goes p.0 (parse_rule unsafe_only p.1)
 
-    pub after_const : (m : Stream) → run_plan (function_after_const f c) k ts m ≡ whole (parse_form behind_const_form m)
+    pub after_const : (m : Stream) → run_plan (function_after_const f c) k ts m ≡ whole (parse_form after_const_form m)
     unfolding function_after_const
     after_const m = async_goes (parse_form (optional_item_word w_async) m)
 
-  -- `const` stands next: by what stands past it, a signature or something else
-  const_read : (o : Out) → on (wrap Node (and_then (wrap Left o) (parse_form behind_const_form))) ≡ follow (λ c r. on (wrap Node (wrap (Both (Left c)) (parse_form behind_const_form r)))) o
+  -- `const` is next: by what follows it, a signature or something else
+  const_read : (o : Out) → on (wrap Node (and_then (wrap Left o) (parse_form after_const_form))) ≡ follow (λ c r. on (wrap Node (wrap (Both (Left c)) (parse_form after_const_form r)))) o
   const_read None = refl
   const_read (Some p) = refl
 
   pub signature_goes : (m : Stream) → sees (at_word w_const) m ≡ true → on (parse_rule signature m) ≡ follow (λ c r. run_plan (function_after_const f (Left c)) k ts r) (take_token (word w_const) m)
   signature_goes m h =
-      ap on (signature_is m ∙ ap (λ b. wrap Node (and_then (branch b (take_token (word w_const) m) (Some (Nothing, m))) (parse_form behind_const_form))) h)
+      ap on (signature_is m ∙ ap (λ b. wrap Node (and_then (branch b (take_token (word w_const) m) (Some (Nothing, m))) (parse_form after_const_form))) h)
       ∙ const_read (take_token (word w_const) m)
       ∙ each (take_token (word w_const) m)
     where
-      each : (o : Out) → follow (λ c r. on (wrap Node (wrap (Both (Left c)) (parse_form behind_const_form r)))) o ≡ follow (λ c r. run_plan (function_after_const f (Left c)) k ts r) o
+      each : (o : Out) → follow (λ c r. on (wrap Node (wrap (Both (Left c)) (parse_form after_const_form r)))) o ≡ follow (λ c r. run_plan (function_after_const f (Left c)) k ts r) o
       each None = refl
       each (Some p) = sym (after_const (Left p.0) p.1)
 
@@ -103,7 +103,7 @@ module _ (k : Rule) (ts : Stream) (f : Syntax → Plan) where
         go None e = refl
         go (Some p) e = ap (λ b. by_test b (run_plan (function_after_const f (Left p.0)) k ts p.1) (run_plan (g p.0) k ts p.1)) (ap (sees at_function) (sym (past_word w_const m p e)) ∙ i)
 
--- A FUNCTION OF A TRAIT, behind its attributes
+-- A FUNCTION OF A TRAIT, after its attributes
 
 module _ (k : Rule) (ts : Stream) (a : Syntax) where
   abbrev of_function : Out → Out

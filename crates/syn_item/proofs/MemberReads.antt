@@ -18,12 +18,12 @@ use Rattle.syn_item.specs.TraitForms.{function_end_form, trait_function_of}
 use Rattle.syn_item.proofs.ImplReads.{three_read}
 
 -- TWO PARTS that are read together, before others
-abbrev behind_two : Syntax → Syntax → Syntax
-behind_two (Both a b) rest = Both a (Both b rest)
-behind_two s rest = rest
+abbrev after_two : Syntax → Syntax → Syntax
+after_two (Both a b) rest = Both a (Both b rest)
+after_two s rest = rest
 
 abbrev two_on : (Stream → Out) → TreeAndRest → Out
-two_on rest x = wrap (behind_two x.0) (rest x.1)
+two_on rest x = wrap (after_two x.0) (rest x.1)
 
 module _ (p rest : Stream → Out) (t : Syntax) (n : Stream) where
   two_read : (o : Out) → and_then o p ≡ Some (t, n) → and_then o (λ r. and_then (p r) rest) ≡ two_on rest (t, n)
@@ -40,7 +40,7 @@ module _ (p rest : Stream → Out) (t : Syntax) (n : Stream) where
           let i : ◌≡◌ {A = TreeAndRest} (Both x.0 y.0, y.1) (t, n) = cc e in
           joined y.0 (rest y.1) ∙ ap (two_on rest) i
 
--- A CONSTANT OF AN IMPL, of what stands before its word, its head, and what stands behind that
+-- A CONSTANT OF AN IMPL, of what is before its word, its head, and what follows that
 
 module _ (m n q : Stream) (a v d k i : Syntax) (marks_read : parse_form member_marks_form m ≡ Some (Both a (Both v d), n)) (head_read : parse_form const_head_form n ≡ Some (Both k i, q)) where
   const_then : Stream → Out
@@ -66,7 +66,7 @@ pub const_read : {E : Type 0} (refusal : E → Type 0) (m n q : Stream) (a v d k
 const_read refusal m n q a v d k i h j (Ok x) new e = const_is m n q a v d k i h j ∙ ap (wrap Node) e
 const_read refusal m n q a v d k i h j (Err x) new e = λ r. const_is m n q a v d k i h j ∙ ap (wrap Node) (e r)
 
--- A FUNCTION OF AN IMPL, of what stands before its signature, that, and its body
+-- A FUNCTION OF AN IMPL, of what is before its signature, that, and its body
 
 module _ (m n q : Stream) (a v d s : Syntax) (marks_read : parse_form member_marks_form m ≡ Some (Both a (Both v d), n)) (signature_read : parse_rule signature n ≡ Some (s, q)) where
   function_then : Stream → Out
@@ -89,7 +89,7 @@ pub function_read : {E : Type 0} (refusal : E → Type 0) (m n q : Stream) (a v 
 function_read refusal m n q a v d s h j (Ok x) new e = function_is m n q a v d s h j ∙ ap (wrap Node) e
 function_read refusal m n q a v d s h j (Err x) new e = λ r. function_is m n q a v d s h j ∙ ap (wrap Node) (e r)
 
--- A FUNCTION OF A TRAIT behind its attributes
+-- A FUNCTION OF A TRAIT after its attributes
 
 bare_is : (a : Syntax) (m : Stream) (s : Syntax) (r : Stream) → parse_rule signature m ≡ Some (s, r) → wrap (Both a) (parse_rule bare_trait_function m) ≡ wrap (trait_function_of s) (wrap (Both a) (parse_form function_end_form r))
 bare_is a m s r read =

@@ -18,7 +18,7 @@ module _ {T : Type 0} (view : T → Syntax) where
   pub row_done : (l : List T) (i : ℕ) → length l ≤ i → members_row view (drop i l) ≡ end
   row_done l i h = ap (members_row view) (drop_all i l h)
 
--- members that stand for the same one by one do so together
+-- members that represent the same one by one do so together
 abbrev in_rule : Syntax → Syntax
 in_rule (Both a s) = Node (Right (Both a (in_rule s)))
 in_rule s = Node (Left Nothing)

@@ -1,4 +1,4 @@
--- In a path, a type and a where clause no self type of an impl stands, groups and lists aside.
+-- A path, a type and a where clause hold no self type of an impl, groups and lists aside.
 use Rattle.std.proofs.Common.{◌≡◌, Bool, true, false, Some, None, sym, ap, ap₂, ◌∙◌, true≢false}
 use Rattle.syn_grammar.specs.Tokens.{Stream, and, or, pick}
 use Rattle.syn_grammar.specs.Rules.{Rule}

@@ -104,7 +104,7 @@ in_brackets = inside Bracket (rule type & (when at_semicolon then punctuation se
 abbrev in_nothing : Grammar
 in_nothing = inside Invisible (rule type)
 
--- by what a path is read as, or whether a `!` stands next and a plain path is read
+-- by what a path is read as, or whether a `!` is next and a plain path is read
 abbrev by_path : Stream → Bool → Out → Out
 by_path m b o =
     wrap Node (branch (sees at_ampersand m) (parse_form reference m) (branch (sees at_star m) (parse_form pointer m) (branch (sees at_paren m) (parse_form in_parens m) (branch (sees at_bracket m) (parse_form in_brackets m)

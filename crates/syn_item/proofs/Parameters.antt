@@ -9,15 +9,15 @@ use Rattle.syn_tokens.proofs.Prints.{added_more}
 use Rattle.syn_item.specs.Signatures.{comma_behind, last_comma}
 
 module _ {T P : Type 0} (v : T → Syntax) (w : P → Syntax) where
-  pub print_comma_behind : (l : List (T × P)) (o : Option T) → print (comma_behind (list_of v w l o)) ≡ print (list_of v w l o) ⧺ last_comma o
-  print_comma_behind [] None = refl
-  print_comma_behind [] (Some t) = ap (λ s. s ⧺ last_comma (Some t)) (sym (append_end (print (v t))))
-  print_comma_behind (x ∷ l) o =
+  pub print_comma_after : (l : List (T × P)) (o : Option T) → print (comma_behind (list_of v w l o)) ≡ print (list_of v w l o) ⧺ last_comma o
+  print_comma_after [] None = refl
+  print_comma_after [] (Some t) = ap (λ s. s ⧺ last_comma (Some t)) (sym (append_end (print (v t))))
+  print_comma_after (x ∷ l) o =
       let others = print (list_of v w l o) in
-      ap (λ s. print (v x.0) ⧺ (print (w x.1) ⧺ s)) (print_comma_behind l o)
+      ap (λ s. print (v x.0) ⧺ (print (w x.1) ⧺ s)) (print_comma_after l o)
       ∙ sym (append_append (print (v x.0)) (print (w x.1) ⧺ others) (last_comma o) ∙ ap (λ s. print (v x.0) ⧺ s) (append_append (print (w x.1)) others (last_comma o)))
 
--- the parts of a signature, one behind the other
+-- the parts of a signature, one after the other
 module _ (constness asyncness safety abi sign ident generics inputs others : Syntax) where
   pub signature_printed : (b b₁ b₂ b₃ b₄ b₅ b₆ b₇ b₈ b₉ : Building) →
       b₁ ≡ added b (print constness) → b₂ ≡ added b₁ (print asyncness) → b₃ ≡ added b₂ (print safety) → b₄ ≡ added b₃ (print abi) → b₅ ≡ added b₄ (print sign) →

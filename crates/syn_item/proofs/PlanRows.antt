@@ -12,7 +12,7 @@ abbrev pub in_row : Grammar → List Grammar → Grammar
 in_row g [] = g
 in_row g (h ∷ l) = g & in_row h l
 
--- a plan that reads them, and goes on by what they are together
+-- a plan that reads them, and continues by what they are together
 abbrev pub reads_row : Grammar → List Grammar → (Syntax → Plan) → Plan
 reads_row g [] f = reads g f
 reads_row g (h ∷ l) f = reads g λ s. reads_row h l (λ t. f (Both s t))
@@ -40,7 +40,7 @@ module _ (k : Rule) (ts : Stream) where
   pub row_refused : (g : Grammar) (l : List Grammar) (f : Syntax → Plan) (m : Stream) → parse_form (in_row g l) m ≡ None → run_plan (reads_row g l f) k ts m ≡ None
   row_refused g l f m e = row_is g l f m ∙ ap (on f) e
 
--- an answer with its value put into another
+-- a result with its value put into another
 pub answers : (v : Syntax → Syntax) (o : Out) → follow (λ s r. Some (v s, r)) o ≡ wrap v o
 answers v None = refl
 answers v (Some p) = refl
@@ -49,12 +49,12 @@ pub wraps : (u v : Syntax → Syntax) (o : Out) → wrap (λ s. u (v s)) o ≡ w
 wraps u v None = refl
 wraps u v (Some p) = refl
 
--- behind attributes, as an item of a kind of its own
+-- after attributes, as an item of a kind of its own
 pub of_kind : (c : Rule) (a : Syntax) (o : Out) → follow (λ s r. Some (Node (Case c (Both a (Node s))), r)) o ≡ wrap (λ s. Node (Case c s)) (wrap (Both a) (wrap Node o))
 of_kind c a None = refl
 of_kind c a (Some p) = refl
 
--- behind modifiers that are never printed
+-- after modifiers that are never printed
 pub of_hidden : (c : Rule) (a : Syntax) (o : Out) → follow (λ s r. Some (Node (Case c (Both a (Node (Both (Unshown Nothing) s)))), r)) o ≡ wrap (λ s. Node (Case c s)) (wrap (Both a) (wrap Node (wrap (Both (Unshown Nothing)) o)))
 of_hidden c a None = refl
 of_hidden c a (Some p) = refl

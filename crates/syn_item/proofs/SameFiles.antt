@@ -1,4 +1,4 @@
--- Files, compared part by part: inner attributes by themselves are told by what is shown of them, and by what is unshown.
+-- Files, compared part by part: inner attributes by themselves are decided by what is shown of them, and by what is unshown.
 use Rattle.std.proofs.Common.{◌≡◌, Bool, true, false, List, [], ◌∷◌, Option, refl, sym, ap, ap₂, ◌∙◌, true≢false}
 use Rattle.std.specs.Prelude.{String}
 use Rattle.std.specs.declared.alloc.Global.{Global}
@@ -103,10 +103,10 @@ shown_is u (a ∷ l) e = go (shown_is u l) (is_inner (plain_syntax (syntax_of_At
     go is true h = ap (Both (plain_syntax (syntax_of_Attribute a))) (is h)
     go is false h = absurd (true≢false (sym h))
 
-told_list : (l : List Attribute) → parts_of_list (inner_listed (plain_all l)) ≡ plain_all l
+known_list : (l : List Attribute) → parts_of_list (inner_listed (plain_all l)) ≡ plain_all l
 unfolding inner_listed
-told_list [] = refl
-told_list (a ∷ l) = go (every is_inner chain) refl
+known_list [] = refl
+known_list (a ∷ l) = go (every is_inner chain) refl
   where
     chain : Syntax
     chain = plain_all (a ∷ l)
@@ -116,7 +116,7 @@ told_list (a ∷ l) = go (every is_inner chain) refl
     go false e = ap (λ t. or_shown t (shown_of (inner_before chain chain))) (unshown_is chain (a ∷ l))
 
 same_inner_attributes : (l m : List Attribute) → same_syntax (inner_attributes_syntax l) (inner_attributes_syntax m) ≡ all_same l m
-same_inner_attributes l m = told inner_listed parts_of_list _ _ (all l) (all m) (plain_listed l) (plain_listed m) (ap parts_of_list (plain_listed l) ∙ told_list l) (ap parts_of_list (plain_listed m) ∙ told_list m)
+same_inner_attributes l m = told inner_listed parts_of_list _ _ (all l) (all m) (plain_listed l) (plain_listed m) (ap parts_of_list (plain_listed l) ∙ known_list l) (ap parts_of_list (plain_listed m) ∙ known_list m)
 
 -- A FILE: two parts that are never printed, inner attributes and items
 pub same_file : {T : Type 0} (v : T → Syntax) (a b : Option (String Global)) (c d : Option Frontmatter) (l m : List Attribute) (x y : List T) →

@@ -22,9 +22,9 @@ use Rattle.syn_lower.proofs.Compared.{told}
 use Rattle.syn_item.specs.Impls.{for_type, implemented, inherent, is_shaped, kept_list, without_self_type}
 use Rattle.syn_item.specs.Parts.{members_of}
 use Rattle.syn_item.proofs.SameParts.{all_same}
-use Rattle.syn_item.proofs.SameTraits.{before, behind_nine, inside, same_members}
+use Rattle.syn_item.proofs.SameTraits.{before, after_nine, inside, same_members}
 
--- A PART WITHOUT A SELF TYPE: spans don't tell whether one would be found
+-- A PART WITHOUT A SELF TYPE: spans don't decide whether one would be found
 
 led_part_plain : (s : Syntax) → led_part (plain_syntax s) ≡ led_part s
 led_part_plain (Both s t) = ap₂ or (led_part_plain s) (led_part_plain t)
@@ -55,18 +55,18 @@ abbrev bared : Syntax → Syntax
 bared (Shaped j s) = s
 bared s = s
 
-told_by : (s : Syntax) (b : Bool) → bared (plain_syntax (pick (or (is_shaped s) b) (Shaped untagged s) s)) ≡ plain_syntax s
-told_by (Shaped j s) b = refl
-told_by s true = refl
-told_by s false = refl
+known_by : (s : Syntax) (b : Bool) → bared (plain_syntax (pick (or (is_shaped s) b) (Shaped untagged s) s)) ≡ plain_syntax s
+known_by (Shaped j s) b = refl
+known_by s true = refl
+known_by s false = refl
 
-told_without : (s : Syntax) → bared (plain_syntax (without_self_type s)) ≡ plain_syntax s
-told_without s = told_by s (led_part (renew s))
+known_without : (s : Syntax) → bared (plain_syntax (without_self_type s)) ≡ plain_syntax s
+known_without s = known_by s (led_part (renew s))
 
 same_without : (s t : Syntax) → same_syntax (without_self_type s) (without_self_type t) ≡ same_syntax s t
-same_without s t = told without_self_type bared (without_self_type s) (without_self_type t) s t (plain_without s) (plain_without t) (told_without s) (told_without t)
+same_without s t = told without_self_type bared (without_self_type s) (without_self_type t) s t (plain_without s) (plain_without t) (known_without s) (known_without t)
 
--- WHAT STANDS BEHIND THE GENERICS
+-- AFTER THE GENERICS
 
 abbrev parts : Syntax → Syntax → Syntax → Syntax → Syntax
 parts polarity trait_path ty rest = Both polarity (Both trait_path (Both ty rest))
@@ -92,11 +92,11 @@ plain_inherent (Node (Right (Right (Right (Right (Left bang)))))) rest = ap (λ 
 plain_inherent (Node (Right (Right (Right (Right (Right (Right (Node (Right path))))))))) rest = ap (λ z. Right (Left (Both z (Both (Right Nothing) (plain_syntax rest))))) (plain_without path)
 plain_inherent ty rest = ap (λ z. Right (Right (Both z (plain_syntax rest)))) (plain_without ty)
 
-told_inherent : (ty rest : Syntax) → of_implemented (plain_syntax (inherent ty rest)) ≡ of_inherent (plain_syntax ty) (plain_syntax rest)
-told_inherent (Node (Right (Right (Right (Right (Left bang)))))) rest = ap (λ z. of_inherent (Node (Right (Right (Right (Right (Left z)))))) (plain_syntax rest)) (told_without bang)
-told_inherent (Node (Right (Right (Right (Right (Right (Right (Node (Right path))))))))) rest =
-    ap (λ z. of_inherent (Node (Right (Right (Right (Right (Right (Right (Node (Right z))))))))) (plain_syntax rest)) (told_without path)
-told_inherent ty rest = ap (λ z. of_inherent z (plain_syntax rest)) (told_without ty)
+known_inherent : (ty rest : Syntax) → of_implemented (plain_syntax (inherent ty rest)) ≡ of_inherent (plain_syntax ty) (plain_syntax rest)
+known_inherent (Node (Right (Right (Right (Right (Left bang)))))) rest = ap (λ z. of_inherent (Node (Right (Right (Right (Right (Left z)))))) (plain_syntax rest)) (known_without bang)
+known_inherent (Node (Right (Right (Right (Right (Right (Right (Node (Right path))))))))) rest =
+    ap (λ z. of_inherent (Node (Right (Right (Right (Right (Right (Right (Node (Right z))))))))) (plain_syntax rest)) (known_without path)
+known_inherent ty rest = ap (λ z. of_inherent z (plain_syntax rest)) (known_without ty)
 
 abbrev of_trait : Option (Syntax × For) → Syntax
 of_trait o = maybe (pair_of itself for_syntax) o
@@ -113,24 +113,24 @@ plain_implemented (Some m) None ty rest = ap (λ z. Left (Both (plain_syntax (no
 plain_implemented (Some m) (Some p) ty rest =
     ap₂ (λ y z. Left (Both (plain_syntax (not_syntax m)) (Right (Both y (Both (Node (Both (plain_syntax (for_syntax p.1)) (Case self_type z))) (plain_syntax rest)))))) (plain_without p.0) (plain_without ty)
 
-told_implemented : (q : Option Not) (o : Option (Syntax × For)) (ty rest : Syntax) →
+known_implemented : (q : Option Not) (o : Option (Syntax × For)) (ty rest : Syntax) →
     of_implemented (plain_syntax (implemented (polarity_of q) (of_trait o) ty rest)) ≡ plain_syntax (parts (polarity_of q) (of_trait o) ty rest)
-told_implemented None None ty rest = told_inherent ty rest
-told_implemented None (Some p) ty rest = ap₂ (λ y z. parts (Right Nothing) (Left (Both y (plain_syntax (for_syntax p.1)))) z (plain_syntax rest)) (told_without p.0) (told_without ty)
-told_implemented (Some m) None ty rest = ap (λ z. parts (Left (plain_syntax (not_syntax m))) (Right Nothing) z (plain_syntax rest)) (told_without ty)
-told_implemented (Some m) (Some p) ty rest =
-    ap₂ (λ y z. parts (Left (plain_syntax (not_syntax m))) (Left (Both y (plain_syntax (for_syntax p.1)))) z (plain_syntax rest)) (told_without p.0) (told_without ty)
+known_implemented None None ty rest = known_inherent ty rest
+known_implemented None (Some p) ty rest = ap₂ (λ y z. parts (Right Nothing) (Left (Both y (plain_syntax (for_syntax p.1)))) z (plain_syntax rest)) (known_without p.0) (known_without ty)
+known_implemented (Some m) None ty rest = ap (λ z. parts (Left (plain_syntax (not_syntax m))) (Right Nothing) z (plain_syntax rest)) (known_without ty)
+known_implemented (Some m) (Some p) ty rest =
+    ap₂ (λ y z. parts (Left (plain_syntax (not_syntax m))) (Left (Both y (plain_syntax (for_syntax p.1)))) z (plain_syntax rest)) (known_without p.0) (known_without ty)
 
 same_implemented : (q r : Option Not) (o p : Option (Syntax × For)) (s t x y : Syntax) →
     same_syntax (implemented (polarity_of q) (of_trait o) s x) (implemented (polarity_of r) (of_trait p) t y)
     ≡ and (same_syntax (polarity_of q) (polarity_of r)) (and (same_syntax (of_trait o) (of_trait p)) (and (same_syntax s t) (same_syntax x y)))
 same_implemented q r o p s t x y =
     told both_implemented of_implemented (implemented (polarity_of q) (of_trait o) s x) (implemented (polarity_of r) (of_trait p) t y) (parts (polarity_of q) (of_trait o) s x) (parts (polarity_of r) (of_trait p) t y)
-    (plain_implemented q o s x) (plain_implemented r p t y) (told_implemented q o s x) (told_implemented r p t y)
+    (plain_implemented q o s x) (plain_implemented r p t y) (known_implemented q o s x) (known_implemented r p t y)
 
 -- AN IMPL
 
--- the polarity, told among the modifiers
+-- the polarity, one of the modifiers
 moved : (d c u i g p x : Bool) → and d (and c (and u (and i (and g (and p x))))) ≡ and (and d (and c p)) (and u (and i (and g x)))
 moved false c u i g p x = refl
 moved true false u i g p x = refl
@@ -147,7 +147,7 @@ module _ {T : Type 0} (view : T → Syntax) where
   same_impl l m d c u i g q r o p s t e f a b x y =
       ap (λ z. and (before l m) (and d (and c (and u (and i (and g z)))))) (same_implemented q r o p s t (ending l e a x) (ending m f b y))
       ∙ ap₂ (λ z w. and (before l m) (and d (and c (and u (and i (and g (and bang (and path (and types (and z (and (inside l m) w))))))))))) (same_without e f) (same_members view x y)
-      ∙ behind_nine l m d c u i g bang path types (same_syntax e f) (same_syntax (in_order view x) (in_order view y))
+      ∙ after_nine l m d c u i g bang path types (same_syntax e f) (same_syntax (in_order view x) (in_order view y))
       ∙ ap (and (all_same l m)) (moved d c u i g bang (and path (and types (and (same_syntax e f) (same_syntax (in_order view x) (in_order view y))))))
     where
       bang : Bool

@@ -12,7 +12,7 @@ use Rattle.syn_lower.proofs.Compared.{told}
 use Rattle.syn_item.specs.Macros.{ended_group, ended_macro, named_macro}
 use Rattle.syn_item.proofs.SameParts.{all_same, listed_same, semi_of}
 
--- A GROUP, and what stands behind it
+-- A GROUP, and what follows it
 
 abbrev in_side : (Syntax → Syntax) → Syntax → Syntax
 in_side side (Both group semi) = Both (side group) semi
@@ -31,11 +31,11 @@ plain_group o (Right s) = ap Right (plain_group o s)
 plain_group (Some semi) s = refl
 plain_group None s = refl
 
-told_group : (o : Option Semi) (s : Syntax) → of_group (plain_syntax (ended_group (semi_of o) s)) ≡ plain_syntax (Both s (semi_of o))
-told_group o (Left s) = ap (in_side Left) (told_group o s)
-told_group o (Right s) = ap (in_side Right) (told_group o s)
-told_group (Some semi) s = refl
-told_group None s = refl
+known_group : (o : Option Semi) (s : Syntax) → of_group (plain_syntax (ended_group (semi_of o) s)) ≡ plain_syntax (Both s (semi_of o))
+known_group o (Left s) = ap (in_side Left) (known_group o s)
+known_group o (Right s) = ap (in_side Right) (known_group o s)
+known_group (Some semi) s = refl
+known_group None s = refl
 
 -- A MACRO AS A MEMBER
 
@@ -55,14 +55,14 @@ plain_macro : (o : Option Semi) (s : Syntax) → plain_syntax (ended_macro (semi
 plain_macro o (Node (Both path (Both bang group))) = ap (λ z. Node (Both (plain_syntax path) (Both (plain_syntax bang) (Node z)))) (plain_group o group)
 plain_macro o s = refl
 
-told_macro : (o : Option Semi) (s : Syntax) → of_macro (plain_syntax (ended_macro (semi_of o) s)) ≡ plain_syntax (Both s (semi_of o))
-told_macro o (Node (Both path (Both bang group))) = ap (in_macro (plain_syntax path) (plain_syntax bang)) (told_group o group)
-told_macro o s = refl
+known_macro : (o : Option Semi) (s : Syntax) → of_macro (plain_syntax (ended_macro (semi_of o) s)) ≡ plain_syntax (Both s (semi_of o))
+known_macro o (Node (Both path (Both bang group))) = ap (in_macro (plain_syntax path) (plain_syntax bang)) (known_group o group)
+known_macro o s = refl
 
 pub same_ended : (o q : Option Semi) (s t : Syntax) → same_syntax (ended_macro (semi_of o) s) (ended_macro (semi_of q) t) ≡ and (same_syntax s t) (same_syntax (semi_of o) (semi_of q))
-same_ended o q s t = told both_ended of_macro (ended_macro (semi_of o) s) (ended_macro (semi_of q) t) (Both s (semi_of o)) (Both t (semi_of q)) (plain_macro o s) (plain_macro q t) (told_macro o s) (told_macro q t)
+same_ended o q s t = told both_ended of_macro (ended_macro (semi_of o) s) (ended_macro (semi_of q) t) (Both s (semi_of o)) (Both t (semi_of q)) (plain_macro o s) (plain_macro q t) (known_macro o s) (known_macro q t)
 
--- behind its attributes
+-- after its attributes
 pub same_member_macro : (l m : List Attribute) (o q : Option Semi) (s t : Syntax) →
     and (listed_same l m) (same_syntax (ended_macro (semi_of o) s) (ended_macro (semi_of q) t)) ≡ and (all_same l m) (and (same_syntax s t) (same_syntax (semi_of o) (semi_of q)))
 same_member_macro l m o q s t = ap₂ and (same_attributes l m) (same_ended o q s t)
@@ -90,11 +90,11 @@ module _ (ident : Syntax) where
   plain_named o (Node (Both path (Both bang group))) = ap (λ z. Node (Both (plain_syntax path) (Both (plain_syntax bang) (Both (plain_syntax ident) (Node z))))) (plain_group o group)
   plain_named o s = refl
 
-  told_named : (o : Option Semi) (s : Syntax) → of_named (plain_syntax (named_macro ident (semi_of o) s)) ≡ plain_syntax (parts o s)
-  told_named o (Node (Both path (Both bang group))) = ap (in_named (plain_syntax path) (plain_syntax bang) (plain_syntax ident)) (told_group o group)
-  told_named o s = refl
+  known_named : (o : Option Semi) (s : Syntax) → of_named (plain_syntax (named_macro ident (semi_of o) s)) ≡ plain_syntax (parts o s)
+  known_named o (Node (Both path (Both bang group))) = ap (in_named (plain_syntax path) (plain_syntax bang) (plain_syntax ident)) (known_group o group)
+  known_named o s = refl
 
 pub same_item_macro : (l m : List Attribute) (a b : Syntax) (o q : Option Semi) (s t : Syntax) →
     and (listed_same l m) (same_syntax (named_macro a (semi_of o) s) (named_macro b (semi_of q) t)) ≡ and (all_same l m) (and (same_syntax a b) (and (same_syntax s t) (same_syntax (semi_of o) (semi_of q))))
 same_item_macro l m a b o q s t =
-    ap₂ and (same_attributes l m) (told both_named of_named (named_macro a (semi_of o) s) (named_macro b (semi_of q) t) (parts a o s) (parts b q t) (plain_named a o s) (plain_named b q t) (told_named a o s) (told_named b q t))
+    ap₂ and (same_attributes l m) (told both_named of_named (named_macro a (semi_of o) s) (named_macro b (semi_of q) t) (parts a o s) (parts b q t) (plain_named a o s) (plain_named b q t) (known_named a o s) (known_named b q t))

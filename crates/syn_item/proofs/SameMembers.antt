@@ -17,7 +17,7 @@ use Rattle.syn_lower.specs.Generics.{bounds_syntax}
 use Rattle.syn_lower.specs.declared.attr.Attribute.{Attribute}
 use Rattle.syn_lower.specs.declared.bounds.TypeParamBound.TheVariants as TypeParamBound-m
 use Rattle.syn_lower.proofs.Attributes.{same_attributes}
-use Rattle.syn_lower.proofs.Bodies.{same_behind_three}
+use Rattle.syn_lower.proofs.Bodies.{same_after_three}
 use Rattle.syn_lower.proofs.Compared.{told}
 use Rattle.syn_lower.proofs.GenericsCompared.{same_bounds}
 use Rattle.syn_item.specs.Macros.{among_items, among_members}
@@ -85,12 +85,12 @@ plain_inner : (inner s : Syntax) → plain_syntax (with_inner inner s) ≡ both_
 plain_inner inner (Node (Group d o c s)) = refl
 plain_inner inner s = refl
 
-told_inner : (inner s : Syntax) → of_inner (plain_syntax (with_inner inner s)) ≡ plain_syntax (Both inner s)
-told_inner inner (Node (Group d o c s)) = refl
-told_inner inner s = refl
+known_inner : (inner s : Syntax) → of_inner (plain_syntax (with_inner inner s)) ≡ plain_syntax (Both inner s)
+known_inner inner (Node (Group d o c s)) = refl
+known_inner inner s = refl
 
 same_inner : (i j s t : Syntax) → same_syntax (with_inner i s) (with_inner j t) ≡ and (same_syntax i j) (same_syntax s t)
-same_inner i j s t = told both_inner of_inner (with_inner i s) (with_inner j t) (Both i s) (Both j t) (plain_inner i s) (plain_inner j t) (told_inner i s) (told_inner j t)
+same_inner i j s t = told both_inner of_inner (with_inner i s) (with_inner j t) (Both i s) (Both j t) (plain_inner i s) (plain_inner j t) (known_inner i s) (known_inner j t)
 
 module _ (l m : List Attribute) (a b : Optional) where
   abbrev attributes_in : Option Syntax → List Attribute → Syntax
@@ -114,6 +114,6 @@ module _ (l m : List Attribute) (a b : Optional) where
   same_trait_function (Some x) None o q s = none_same _ (modifiers_aside l m a b) s ∙ sym (none_same (all_same l m) (modifiers l m a b) s)
   same_trait_function (Some x) (Some y) o q s =
       ap (λ z. and (same_syntax (attributes_before_body l) (attributes_before_body m)) (and (modifiers_aside l m a b) (and s (and (same_syntax (aside (semi_of o)) (aside (semi_of q))) z)))) (same_inner (attributes_in_body l) (attributes_in_body m) x y)
-      ∙ same_behind_three l m (modifiers_aside l m a b) s (same_syntax (aside (semi_of o)) (aside (semi_of q))) (same_syntax x y)
+      ∙ same_after_three l m (modifiers_aside l m a b) s (same_syntax (aside (semi_of o)) (aside (semi_of q))) (same_syntax x y)
       ∙ ap₂ (λ z w. and (all_same l m) (and z (and s w))) (same_aside default_syntax a b)
       (ap (λ z. and z (same_syntax x y)) (same_aside semi_syntax o q) ∙ turn (same_syntax (semi_of o) (semi_of q)) (same_syntax x y))

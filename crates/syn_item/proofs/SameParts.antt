@@ -15,7 +15,7 @@ use Rattle.syn_lower.specs.Generics.{no_clause}
 use Rattle.syn_lower.specs.Parts.{or_added}
 use Rattle.syn_lower.specs.declared.attr.Attribute.{Attribute}
 use Rattle.syn_lower.proofs.Attributes.{same_attributes}
-use Rattle.syn_lower.proofs.Bodies.{same_behind_five, same_behind_three}
+use Rattle.syn_lower.proofs.Bodies.{same_after_five, same_after_three}
 use Rattle.syn_lower.proofs.Compared.{told}
 use Rattle.syn_item.specs.Parts.{aside, generics_aside}
 use Rattle.syn_item.specs.Simple.{aliased, attributes_by_content, content_syntax, module_content, place_aside, syntax_of_WhereClausePlacement}
@@ -51,12 +51,12 @@ plain_generics : (s : Syntax) → plain_syntax (generics_aside s) ≡ generics_a
 plain_generics (Both (Node (Vanishing false (Right Nothing))) (Unshown Nothing)) = refl
 plain_generics s = refl
 
-told_generics : (s : Syntax) → of_generics (plain_syntax (generics_aside s)) ≡ plain_syntax s
-told_generics (Both (Node (Vanishing false (Right Nothing))) (Unshown Nothing)) = refl
-told_generics s = refl
+known_generics : (s : Syntax) → of_generics (plain_syntax (generics_aside s)) ≡ plain_syntax s
+known_generics (Both (Node (Vanishing false (Right Nothing))) (Unshown Nothing)) = refl
+known_generics s = refl
 
 pub same_generics_aside : (s t : Syntax) → same_syntax (generics_aside s) (generics_aside t) ≡ same_syntax s t
-same_generics_aside s t = told generics_aside of_generics (generics_aside s) (generics_aside t) s t (plain_generics s) (plain_generics t) (told_generics s) (told_generics t)
+same_generics_aside s t = told generics_aside of_generics (generics_aside s) (generics_aside t) s t (plain_generics s) (plain_generics t) (known_generics s) (known_generics t)
 
 -- CONSTANTS, with their modifiers and generics
 
@@ -67,7 +67,7 @@ module _ (l m : List Attribute) (a b : Optional) where
   abbrev pub modifiers_aside : Bool
   modifiers_aside = same_syntax (aside (maybe default_syntax a)) (aside (maybe default_syntax b))
 
-  -- behind attributes and a visibility
+  -- after attributes and a visibility
   pub same_modified : (v x : Bool) → and (listed_same l m) (and v (and modifiers_aside x)) ≡ and (all_same l m) (and v (and modifiers x))
   same_modified v x = ap₂ (λ c d. and c (and v (and d x))) (same_attributes l m) (same_aside default_syntax a b)
 
@@ -76,7 +76,7 @@ module _ (l m : List Attribute) (a b : Optional) where
 
   -- FUNCTIONS
   pub same_function : (v s y : Bool) → and (same_syntax (attributes_before_body l) (attributes_before_body m)) (and v (and modifiers_aside (and s (and (same_syntax (attributes_in_body l) (attributes_in_body m)) y)))) ≡ and (all_same l m) (and v (and modifiers (and s y)))
-  same_function v s y = same_behind_three l m v modifiers_aside s y ∙ ap (λ d. and (all_same l m) (and v (and d (and s y)))) (same_aside default_syntax a b)
+  same_function v s y = same_after_three l m v modifiers_aside s y ∙ ap (λ d. and (all_same l m) (and v (and d (and s y)))) (same_aside default_syntax a b)
 
 -- A TREE OF A USE, with `::` before it or without it
 
@@ -88,13 +88,13 @@ plain_rooted (Right (Right s)) = refl
 plain_rooted (Left (Mark xs)) = refl
 plain_rooted s = refl
 
-told_rooted : (s : Syntax) → unrooted (plain_syntax (rooted s)) ≡ plain_syntax s
-told_rooted (Right (Both (Node t) (Left (Both c (Node l))))) = ap₂ (λ x y. Right (Both (Node x) (Left (Both (plain_syntax c) (Node y))))) (told_rooted t) (told_rooted l)
-told_rooted (Right (Both (Node t) (Right s))) = ap (λ x. Right (Both (Node x) (Right (plain_syntax s)))) (told_rooted t)
-told_rooted (Right (Left (Group d o c (Node l)))) = ap (λ x. Right (Left (Group d call_site call_site (Node x)))) (told_rooted l)
-told_rooted (Right (Right s)) = refl
-told_rooted (Left (Mark xs)) = refl
-told_rooted s = refl
+known_rooted : (s : Syntax) → unrooted (plain_syntax (rooted s)) ≡ plain_syntax s
+known_rooted (Right (Both (Node t) (Left (Both c (Node l))))) = ap₂ (λ x y. Right (Both (Node x) (Left (Both (plain_syntax c) (Node y))))) (known_rooted t) (known_rooted l)
+known_rooted (Right (Both (Node t) (Right s))) = ap (λ x. Right (Both (Node x) (Right (plain_syntax s)))) (known_rooted t)
+known_rooted (Right (Left (Group d o c (Node l)))) = ap (λ x. Right (Left (Group d call_site call_site (Node x)))) (known_rooted l)
+known_rooted (Right (Right s)) = refl
+known_rooted (Left (Mark xs)) = refl
+known_rooted s = refl
 
 abbrev both_used : Syntax → Syntax
 both_used (Both sign tree) = used sign tree
@@ -113,13 +113,13 @@ plain_used (Some sign) t = refl
 plain_used None (Node (Right (Left (Group d o c (Node l))))) = ap (λ x. Left (Such (Group d call_site call_site (Node x)))) (plain_rooted l)
 plain_used None t = refl
 
-told_used : (o : Option PathSep) (t : Syntax) → of_used (plain_syntax (used (sign_of o) t)) ≡ plain_syntax (Both (sign_of o) t)
-told_used (Some sign) t = refl
-told_used None (Node (Right (Left (Group d o c (Node l))))) = ap (λ x. Both (Right Nothing) (Node (Right (Left (Group d call_site call_site (Node x)))))) (told_rooted l)
-told_used None t = refl
+known_used : (o : Option PathSep) (t : Syntax) → of_used (plain_syntax (used (sign_of o) t)) ≡ plain_syntax (Both (sign_of o) t)
+known_used (Some sign) t = refl
+known_used None (Node (Right (Left (Group d o c (Node l))))) = ap (λ x. Both (Right Nothing) (Node (Right (Left (Group d call_site call_site (Node x)))))) (known_rooted l)
+known_used None t = refl
 
 pub same_used : (o q : Option PathSep) (s t : Syntax) → same_syntax (used (sign_of o) s) (used (sign_of q) t) ≡ and (same_syntax (sign_of o) (sign_of q)) (same_syntax s t)
-same_used o q s t = told both_used of_used (used (sign_of o) s) (used (sign_of q) t) (Both (sign_of o) s) (Both (sign_of q) t) (plain_used o s) (plain_used q t) (told_used o s) (told_used q t)
+same_used o q s t = told both_used of_used (used (sign_of o) s) (used (sign_of q) t) (Both (sign_of o) s) (Both (sign_of q) t) (plain_used o s) (plain_used q t) (known_used o s) (known_used q t)
 
 pub same_use : (l m : List Attribute) (o q : Option PathSep) (s t : Syntax) (v u x : Bool) →
     and (listed_same l m) (and v (and u (and (same_syntax (used (sign_of o) s) (used (sign_of q) t)) x))) ≡ and (all_same l m) (and v (and u (and (same_syntax (sign_of o) (sign_of q)) (and (same_syntax s t) x))))
@@ -127,7 +127,7 @@ same_use l m o q s t v u x =
     ap₂ (λ c d. and c (and v (and u (and d x)))) (same_attributes l m) (same_used o q s t)
     ∙ ap (λ d. and (all_same l m) (and v (and u d))) (sym (and_assoc (same_syntax (sign_of o) (sign_of q)) (same_syntax s t) x))
 
--- A TYPE ALIAS, with its where clause before `=` or behind the type
+-- A TYPE ALIAS, with its where clause before `=` or after the type
 
 abbrev place_of : WhereClausePlacement-m.the_data → Syntax
 place_of = syntax_of_WhereClausePlacement
@@ -152,11 +152,11 @@ module _ (sign ty : Syntax) where
   plain_placed WhereClausePlacement-m.Late (Node (Vanishing false (Right Nothing))) = refl
   plain_placed WhereClausePlacement-m.Late clause = refl
 
-  told_placed : (p : WhereClausePlacement-m.the_data) (clause : Syntax) → of_placed (plain_syntax (placed_parts (parts p clause))) ≡ plain_syntax (parts p clause)
-  told_placed WhereClausePlacement-m.Early (Node (Vanishing false (Right Nothing))) = refl
-  told_placed WhereClausePlacement-m.Early clause = refl
-  told_placed WhereClausePlacement-m.Late (Node (Vanishing false (Right Nothing))) = refl
-  told_placed WhereClausePlacement-m.Late clause = refl
+  known_placed : (p : WhereClausePlacement-m.the_data) (clause : Syntax) → of_placed (plain_syntax (placed_parts (parts p clause))) ≡ plain_syntax (parts p clause)
+  known_placed WhereClausePlacement-m.Early (Node (Vanishing false (Right Nothing))) = refl
+  known_placed WhereClausePlacement-m.Early clause = refl
+  known_placed WhereClausePlacement-m.Late (Node (Vanishing false (Right Nothing))) = refl
+  known_placed WhereClausePlacement-m.Late clause = refl
 
 module _ (p q : WhereClausePlacement-m.the_data) (c d e f s t : Syntax) where
   abbrev places : Bool
@@ -169,7 +169,7 @@ module _ (p q : WhereClausePlacement-m.the_data) (c d e f s t : Syntax) where
   by_parts = and (same_syntax (place_of p) (place_of q)) (and (same_syntax c d) (and (same_syntax e f) (same_syntax s t)))
 
   pub same_placed : and places aliases ≡ by_parts
-  same_placed = told placed_parts of_placed (placed_parts (parts e s p c)) (placed_parts (parts f t q d)) (parts e s p c) (parts f t q d) (plain_placed e s p c) (plain_placed f t q d) (told_placed e s p c) (told_placed f t q d)
+  same_placed = told placed_parts of_placed (placed_parts (parts e s p c)) (placed_parts (parts f t q d)) (parts e s p c) (parts f t q d) (plain_placed e s p c) (plain_placed f t q d) (known_placed e s p c) (known_placed f t q d)
 
 -- the two tests of an alias, as one
 pub same_alias : (l m : List Attribute) (a b : Optional) (v k i g y z x : Bool) →
@@ -197,7 +197,7 @@ pub turn : (a b : Bool) → and a b ≡ and b a
 turn true b = sym (and_true b)
 turn false b = sym (and_false b)
 
--- a `;` that is added is told from one that stands
+-- a `;` that is added is distinguished from one that is there
 pub same_or_added : (o q : Option Semi) → same_syntax (or_added semicolon (semi_of o)) (or_added semicolon (semi_of q)) ≡ same_syntax (semi_of o) (semi_of q)
 same_or_added None None = refl
 same_or_added None (Some y) = refl
@@ -208,15 +208,15 @@ module _ (l m : List Attribute) where
   abbrev attributes_in : Content → List Attribute → Syntax
   attributes_in c k = attributes_by_content (content_syntax c) (attributes_before_body k) (attributes_syntax k)
 
-  abbrev behind_name : Content → List Attribute → Option Semi → Syntax
-  behind_name c k o = module_content (attributes_in_body k) (content_syntax c) (semi_of o)
+  abbrev after_name : Content → List Attribute → Option Semi → Syntax
+  after_name c k o = module_content (attributes_in_body k) (content_syntax c) (semi_of o)
 
   pub same_module : (c d : Content) (o q : Option Semi) (v u k i : Bool) →
-      and (same_syntax (attributes_in c l) (attributes_in d m)) (and v (and u (and k (and i (same_syntax (behind_name c l o) (behind_name d m q))))))
+      and (same_syntax (attributes_in c l) (attributes_in d m)) (and v (and u (and k (and i (same_syntax (after_name c l o) (after_name d m q))))))
       ≡ and (all_same l m) (and v (and u (and k (and i (and (same_syntax (content_syntax c) (content_syntax d)) (same_syntax (semi_of o) (semi_of q)))))))
   same_module None None o q v u k i = ap₂ (λ a b. and a (and v (and u (and k (and i b))))) (same_attributes l m) (same_or_added o q)
   same_module None (Some y) o q v u k i = none_same _ v u k i ∙ sym (none_same (all_same l m) v u k i)
   same_module (Some x) None o q v u k i = none_same _ v u k i ∙ sym (none_same (all_same l m) v u k i)
   same_module (Some x) (Some y) o q v u k i =
-      same_behind_five l m v u k i (same_syntax (aside (semi_of o)) (aside (semi_of q))) (same_syntax x.1 y.1)
+      same_after_five l m v u k i (same_syntax (aside (semi_of o)) (aside (semi_of q))) (same_syntax x.1 y.1)
       ∙ ap (λ z. and (all_same l m) (and v (and u (and k (and i z))))) (ap (λ z. and z (same_syntax x.1 y.1)) (same_aside semi_syntax o q) ∙ turn (same_syntax (semi_of o) (semi_of q)) (same_syntax x.1 y.1))

@@ -46,19 +46,19 @@ module _ (w : SelfValue) where
   plain_received (Some x) (ReceiverKind-m.Reference a l m) = refl
   plain_received (Some x) (ReceiverKind-m.Typed c t) = refl
 
-  told_received : (o : Option Mut) (k : ReceiverKind-m.the_data) → of_received (plain_syntax (both_received (parts o k))) ≡ plain_syntax (parts o k)
-  told_received None ReceiverKind-m.Value = refl
-  told_received None (ReceiverKind-m.Reference a l m) = refl
-  told_received None (ReceiverKind-m.Typed c t) = refl
-  told_received (Some x) ReceiverKind-m.Value = refl
-  told_received (Some x) (ReceiverKind-m.Reference a l m) = refl
-  told_received (Some x) (ReceiverKind-m.Typed c t) = refl
+  known_received : (o : Option Mut) (k : ReceiverKind-m.the_data) → of_received (plain_syntax (both_received (parts o k))) ≡ plain_syntax (parts o k)
+  known_received None ReceiverKind-m.Value = refl
+  known_received None (ReceiverKind-m.Reference a l m) = refl
+  known_received None (ReceiverKind-m.Typed c t) = refl
+  known_received (Some x) ReceiverKind-m.Value = refl
+  known_received (Some x) (ReceiverKind-m.Reference a l m) = refl
+  known_received (Some x) (ReceiverKind-m.Typed c t) = refl
 
 pub same_receiver : (l m : List Attribute) (o q : Option Mut) (w u : SelfValue) (j k : ReceiverKind-m.the_data) →
     and (listed_same l m) (same_syntax (received (maybe mut_syntax o) (self_value_syntax w) (syntax_of_ReceiverKind j)) (received (maybe mut_syntax q) (self_value_syntax u) (syntax_of_ReceiverKind k)))
     ≡ and (all_same l m) (and (same_syntax (maybe mut_syntax o) (maybe mut_syntax q)) (and (same_syntax (self_value_syntax w) (self_value_syntax u)) (same_syntax (syntax_of_ReceiverKind j) (syntax_of_ReceiverKind k))))
 same_receiver l m o q w u j k =
-    ap₂ and (same_attributes l m) (told both_received of_received (both_received (parts w o j)) (both_received (parts u q k)) (parts w o j) (parts u q k) (plain_received w o j) (plain_received u q k) (told_received w o j) (told_received u q k))
+    ap₂ and (same_attributes l m) (told both_received of_received (both_received (parts w o j)) (both_received (parts u q k)) (parts w o j) (parts u q k) (plain_received w o j) (plain_received u q k) (known_received w o j) (known_received u q k))
 
 -- PARAMETERS
 
@@ -71,9 +71,9 @@ plain_receiver : (s : Syntax) → plain_syntax (receiver_argument s) ≡ receive
 plain_receiver (Node (Both attrs receiver)) = refl
 plain_receiver s = refl
 
-told_receiver : (s : Syntax) → of_receiver (plain_syntax (receiver_argument s)) ≡ plain_syntax s
-told_receiver (Node (Both attrs receiver)) = refl
-told_receiver s = refl
+known_receiver : (s : Syntax) → of_receiver (plain_syntax (receiver_argument s)) ≡ plain_syntax s
+known_receiver (Node (Both attrs receiver)) = refl
+known_receiver s = refl
 
 abbrev of_typed : Syntax → Syntax
 of_typed (Node (Both (Node (Right (Unshown Nothing))) (Right (Both pat (Both colon ty))))) = Both pat (Left (Both colon ty))
@@ -87,11 +87,11 @@ plain_typed (Both (Node (Right (Unshown Nothing))) (Both pat (Left (Both colon t
 plain_typed (Both attrs (Both pat (Left (Both colon ty)))) = refl
 plain_typed s = refl
 
-told_typed : (s : Syntax) → of_typed (plain_syntax (typed_argument s)) ≡ plain_syntax s
-told_typed (Both pat (Left (Both colon ty))) = refl
-told_typed (Both (Node (Right (Unshown Nothing))) (Both pat (Left (Both colon ty)))) = refl
-told_typed (Both attrs (Both pat (Left (Both colon ty)))) = refl
-told_typed s = refl
+known_typed : (s : Syntax) → of_typed (plain_syntax (typed_argument s)) ≡ plain_syntax s
+known_typed (Both pat (Left (Both colon ty))) = refl
+known_typed (Both (Node (Right (Unshown Nothing))) (Both pat (Left (Both colon ty)))) = refl
+known_typed (Both attrs (Both pat (Left (Both colon ty)))) = refl
+known_typed s = refl
 
 -- a receiver is no parameter with a type
 abbrev is_typed : Syntax → Bool
@@ -130,12 +130,12 @@ same_variants (FnArg-m.Typed s) (FnArg-m.Typed t) = same_syntax s t
 same_variants x y = false
 
 pub same_argument : (x y : FnArg-m.the_data) → same_syntax (syntax_of_FnArg x) (syntax_of_FnArg y) ≡ same_variants x y
-same_argument (FnArg-m.Receiver s) (FnArg-m.Receiver t) = told receiver_argument of_receiver (receiver_argument s) (receiver_argument t) s t (plain_receiver s) (plain_receiver t) (told_receiver s) (told_receiver t)
-same_argument (FnArg-m.Typed s) (FnArg-m.Typed t) = told typed_argument of_typed (typed_argument s) (typed_argument t) s t (plain_typed s) (plain_typed t) (told_typed s) (told_typed t)
+same_argument (FnArg-m.Receiver s) (FnArg-m.Receiver t) = told receiver_argument of_receiver (receiver_argument s) (receiver_argument t) s t (plain_receiver s) (plain_receiver t) (known_receiver s) (known_receiver t)
+same_argument (FnArg-m.Typed s) (FnArg-m.Typed t) = told typed_argument of_typed (typed_argument s) (typed_argument t) s t (plain_typed s) (plain_typed t) (known_typed s) (known_typed t)
 same_argument (FnArg-m.Receiver s) (FnArg-m.Typed t) = apart s t
 same_argument (FnArg-m.Typed s) (FnArg-m.Receiver t) = turned t s
 
--- PARAMETERS BEFORE A VARIADIC ONE: the comma that is added is told from one that stands
+-- PARAMETERS BEFORE A VARIADIC ONE: the comma that is added is distinguished from one that is there
 
 abbrev Pairs : Type 0
 Pairs = List (FnArg-m.the_data × Comma)
@@ -175,17 +175,17 @@ module _ (l : Pairs) (o : Option FnArg-m.the_data) where
   plain_parameters None = refl
   plain_parameters (Some v) = ap (λ z. Node (Shaped parameters (Both z (Left (plain_syntax v))))) (plain_behind l o)
 
-  told_parameters : (v : Option Syntax) → of_parameters (plain_syntax (both_parameters (with_variadic v))) ≡ plain_syntax (with_variadic v)
-  told_parameters None = refl
-  told_parameters (Some v) = ap (λ z. Both z (Left (plain_syntax v))) (told_behind l o)
+  known_parameters : (v : Option Syntax) → of_parameters (plain_syntax (both_parameters (with_variadic v))) ≡ plain_syntax (with_variadic v)
+  known_parameters None = refl
+  known_parameters (Some v) = ap (λ z. Both z (Left (plain_syntax v))) (told_behind l o)
 
 pub same_parameters : (l m : Pairs) (o q : Option FnArg-m.the_data) (v u : Option Syntax) (x : Bool) →
     and (same_syntax (parameters_of (listed l o) (maybe itself v)) (parameters_of (listed m q) (maybe itself u))) x ≡ and (same_syntax (listed l o) (listed m q)) (and (same_syntax (maybe itself v) (maybe itself u)) x)
 same_parameters l m o q v u x =
-    ap (λ z. and z x) (told both_parameters of_parameters (both_parameters (with_variadic l o v)) (both_parameters (with_variadic m q u)) (with_variadic l o v) (with_variadic m q u) (plain_parameters l o v) (plain_parameters m q u) (told_parameters l o v) (told_parameters m q u))
+    ap (λ z. and z x) (told both_parameters of_parameters (both_parameters (with_variadic l o v)) (both_parameters (with_variadic m q u)) (with_variadic l o v) (with_variadic m q u) (plain_parameters l o v) (plain_parameters m q u) (known_parameters l o v) (known_parameters m q u))
     ∙ sym (and_assoc (same_syntax (listed l o) (listed m q)) (same_syntax (maybe itself v) (maybe itself u)) x)
 
--- ten tests, one behind the other, that don't all hold: whatever the last one says
+-- ten tests, one after the other, that don't all hold: whatever the last one says
 pub tenth_apart : (v₁ v₂ v₃ v₄ v₅ v₆ v₇ v₈ v₉ v₁₀ a₁ a₂ a₃ a₄ a₅ a₆ a₇ a₈ a₉ a₁₀ x : Bool) →
     v₁ ≡ a₁ → v₂ ≡ and v₁ a₂ → v₃ ≡ and v₂ a₃ → v₄ ≡ and v₃ a₄ → v₅ ≡ and v₄ a₅ → v₆ ≡ and v₅ a₆ → v₇ ≡ and v₆ a₇ → v₈ ≡ and v₇ a₈ → v₉ ≡ and v₈ a₉ → v₁₀ ≡ and v₉ a₁₀ → v₁₀ ≡ false →
     v₁₀ ≡ and a₁ (and a₂ (and a₃ (and a₄ (and a₅ (and a₆ (and a₇ (and a₈ (and a₉ (and a₁₀ x)))))))))

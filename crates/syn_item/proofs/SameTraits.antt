@@ -14,7 +14,7 @@ use Rattle.syn_lower.specs.Bounds.{syntax_of_TypeParamBound}
 use Rattle.syn_lower.specs.Generics.{bounds_syntax}
 use Rattle.syn_lower.specs.declared.attr.Attribute.{Attribute}
 use Rattle.syn_lower.specs.declared.bounds.TypeParamBound.TheVariants as TypeParamBound-m
-use Rattle.syn_lower.proofs.Bodies.{same_behind_five}
+use Rattle.syn_lower.proofs.Bodies.{same_after_five}
 use Rattle.syn_lower.proofs.GenericsCompared.{same_bounds}
 use Rattle.syn_item.specs.Parts.{members_of}
 use Rattle.syn_item.proofs.SameParts.{all_same}
@@ -37,22 +37,22 @@ module _ (l m : List Attribute) where
   inside = same_syntax (attributes_in_body l) (attributes_in_body m)
 
   behind_six : (a b c d e f y : Bool) → and before (and a (and b (and c (and d (and e (and f (and inside y))))))) ≡ and (all_same l m) (and a (and b (and c (and d (and e (and f y))))))
-  behind_six true b c d e f y = same_behind_five l m b c d e f y
+  behind_six true b c d e f y = same_after_five l m b c d e f y
   behind_six false b c d e f y = and_false before ∙ sym (and_false (all_same l m))
 
-  behind_seven : (a b c d e f g y : Bool) → and before (and a (and b (and c (and d (and e (and f (and g (and inside y)))))))) ≡ and (all_same l m) (and a (and b (and c (and d (and e (and f (and g y)))))))
-  behind_seven true b c d e f g y = behind_six b c d e f g y
-  behind_seven false b c d e f g y = and_false before ∙ sym (and_false (all_same l m))
+  after_seven : (a b c d e f g y : Bool) → and before (and a (and b (and c (and d (and e (and f (and g (and inside y)))))))) ≡ and (all_same l m) (and a (and b (and c (and d (and e (and f (and g y)))))))
+  after_seven true b c d e f g y = behind_six b c d e f g y
+  after_seven false b c d e f g y = and_false before ∙ sym (and_false (all_same l m))
 
   behind_eight : (a b c d e f g h y : Bool) →
       and before (and a (and b (and c (and d (and e (and f (and g (and h (and inside y))))))))) ≡ and (all_same l m) (and a (and b (and c (and d (and e (and f (and g (and h y))))))))
-  behind_eight true b c d e f g h y = behind_seven b c d e f g h y
+  behind_eight true b c d e f g h y = after_seven b c d e f g h y
   behind_eight false b c d e f g h y = and_false before ∙ sym (and_false (all_same l m))
 
-  pub behind_nine : (a b c d e f g h i y : Bool) →
+  pub after_nine : (a b c d e f g h i y : Bool) →
       and before (and a (and b (and c (and d (and e (and f (and g (and h (and i (and inside y)))))))))) ≡ and (all_same l m) (and a (and b (and c (and d (and e (and f (and g (and h (and i y)))))))))
-  behind_nine true b c d e f g h i y = behind_eight b c d e f g h i y
-  behind_nine false b c d e f g h i y = and_false before ∙ sym (and_false (all_same l m))
+  after_nine true b c d e f g h i y = behind_eight b c d e f g h i y
+  after_nine false b c d e f g h i y = and_false before ∙ sym (and_false (all_same l m))
 
   -- A TRAIT, with a colon and bounds, a where clause and members
 
@@ -66,7 +66,7 @@ module _ (l m : List Attribute) where
       and before (and v (and k (and u (and t (and w (and i (and g (and (same_syntax (bounds_syntax (c, s)) (bounds_syntax (d, r))) (and z (and inside (same_syntax (members_of view x) (members_of view y))))))))))))
       ≡ and (all_same l m) (and v (and k (and u (and t (and w (and i (and g (and (same_syntax (maybe colon_syntax c) (maybe colon_syntax d)) (and (same_syntax (listed s) (listed r)) (and z (same_syntax (in_order view x) (in_order view y))))))))))))
   same_trait view v k u t w i g z c d s r x y =
-      behind_nine v k u t w i g (same_syntax (bounds_syntax (c, s)) (bounds_syntax (d, r))) z (same_syntax (members_of view x) (members_of view y))
+      after_nine v k u t w i g (same_syntax (bounds_syntax (c, s)) (bounds_syntax (d, r))) z (same_syntax (members_of view x) (members_of view y))
       ∙ ap₂ (λ e f. and (all_same l m) (and v (and k (and u (and t (and w (and i (and g (and e (and z f)))))))))) (same_bounds syntax_of_TypeParamBound c d s.pairs r.pairs s.last r.last) (same_members view x y)
       ∙ ap (λ e. and (all_same l m) (and v (and k (and u (and t (and w (and i (and g e))))))))
       (sym (and_assoc (same_syntax (maybe colon_syntax c) (maybe colon_syntax d)) (same_syntax (listed s) (listed r)) (and z (same_syntax (in_order view x) (in_order view y)))))

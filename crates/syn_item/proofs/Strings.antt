@@ -8,7 +8,7 @@ use Rattle.syn_grammar.proofs.Looks.{sees_literal}
 use Rattle.syn_parse.proofs.FirstTokens.{no_literal_at_ident}
 use Rattle.syn_parse.proofs.Words.{take_literal}
 
--- where one stands next, it is what any literal is read as
+-- where one is next, it is what any literal is read as
 string_at : (k : LitKind) (x : Text) (sp : Span) (r : Stream) → taken (take_token (literal_of (Str ∷ [])) (leaf (literal k x) sp r)) ≡ true →
     take_token (literal_of (Str ∷ [])) (leaf (literal k x) sp r) ≡ Some (Token (literal k x) sp, r)
 unfolding take_token

@@ -1,4 +1,4 @@
--- A pattern and a colon, written or supplied, and what stands behind them.
+-- A pattern and a colon, written or supplied, and what follows them.
 use Rattle.std.proofs.Common.{◌≡◌, ◌<◌, Bool, true, false, [], ◌∷◌, Some, None, refl, sym, ap, ◌∙◌, true≢false}
 use Rattle.std.proofs.lemmas.Bool.{lt-ltb}
 use Rattle.syn_grammar.specs.Words.{colon}
@@ -25,7 +25,7 @@ underscore_read : (sp : Span) → parse_rule pattern (underscore sp) ≡ Some (w
 unfolding sees lookahead_at take_token
 underscore_read sp = parse_rule_is pattern (underscore sp)
 
--- where a name stands, it has a span
+-- a name that is there has a span
 name_stands : (ts : Stream) → sees (at_unnamed Before_less) ts ≡ true → (sp : Span) × (leaf_span ts ≡ Some sp)
 unfolding sees lookahead_at
 name_stands end h = absurd (true≢false (sym h))
@@ -40,7 +40,7 @@ name_spanned (leaf x sp r) s h k = ap (λ z. Some z) (sym k)
 name_spanned (punct c j sp r) s h k = absurd (true≢false (sym (and_left (sees at_name (punct c j sp r)) _ h) ∙ no_name c j sp r))
 name_spanned (group d o c i r) s h k = absurd (true≢false (sym h))
 
--- a name before what stands behind it
+-- a name before what follows it
 abbrev pub with_name : Syntax → Syntax → Syntax
 with_name name s = Both (first name) (Both (second name) s)
 

@@ -1,4 +1,4 @@
--- The plan of a trait's members, by what stands next behind the attributes.
+-- The plan of a trait's members, by the next token after the attributes.
 use Rattle.std.proofs.Common.{◌≡◌, Bool, true, false, List, [], ◌∷◌, Some, None, refl, sym, ap, subst, ◌∙◌, true≢false}
 use Rattle.std.specs.Prelude.{Option, Result}
 use Rattle.syn_grammar.specs.Words.{colon, semicolon, exclamation, w_Self_type, w_const, w_default, w_pub, w_type}
@@ -20,7 +20,7 @@ use Rattle.syn_parse.specs.Peeks.{past}
 use Rattle.syn_item.specs.Macros.{among_members}
 use Rattle.syn_item.specs.NextWords.{function_next, marked_next}
 use Rattle.syn_item.specs.Planned.{Follows, OnlyKept}
-use Rattle.syn_item.specs.Stages.{trait_const_or_kept, trait_item_plan_behind}
+use Rattle.syn_item.specs.Stages.{trait_const_or_kept, trait_item_plan_after}
 use Rattle.syn_item.specs.TraitForms.{function_end_form}
 use Rattle.syn_item.proofs.Followed.{is_kept, is_refused}
 use Rattle.syn_item.proofs.MemberFunctions.{function_on, other_on, trait_function_goes}
@@ -32,16 +32,16 @@ no_or false q h = (refl, h)
 
 module _ (k : Rule) (ts : Stream) (a : Syntax) (m : Stream) where
   abbrev run : Out
-  run = run_plan (trait_item_plan_behind a) k ts m
+  run = run_plan (trait_item_plan_after a) k ts m
 
   pub marked_kept : marked_next m ≡ true → OnlyKept k ts run
-  unfolding trait_item_plan_behind trait_item_plan
+  unfolding trait_item_plan_after trait_item_plan
   marked_kept h = go (sees (at_word w_pub) m) (sees at_empty_group m) (sees (at_word w_default) m) refl refl refl h
     where
-      go : (p e d : Bool) → sees (at_word w_pub) m ≡ p → sees at_empty_group m ≡ e → sees (at_word w_default) m ≡ d → or p (or e d) ≡ true → OnlyKept k ts (run_plan (trait_item_plan_behind a) k ts m)
-      go true e d x y z w = is_kept k ts (went true ∷ marked ∷ []) (trait_item_plan_behind a) m (x, tt) ((plans_marked.1.0 a).0).1
-      go false true d x y z w = is_kept k ts (went false ∷ went true ∷ marked ∷ []) (trait_item_plan_behind a) m (x, (y, tt)) ((plans_marked.1.0 a).1.0).1
-      go false false true x y z w = is_kept k ts (went false ∷ went false ∷ went true ∷ marked ∷ []) (trait_item_plan_behind a) m (x, (y, (z, tt))) ((plans_marked.1.0 a).1.1.0).1
+      go : (p e d : Bool) → sees (at_word w_pub) m ≡ p → sees at_empty_group m ≡ e → sees (at_word w_default) m ≡ d → or p (or e d) ≡ true → OnlyKept k ts (run_plan (trait_item_plan_after a) k ts m)
+      go true e d x y z w = is_kept k ts (went true ∷ marked ∷ []) (trait_item_plan_after a) m (x, tt) ((plans_marked.1.0 a).0).1
+      go false true d x y z w = is_kept k ts (went false ∷ went true ∷ marked ∷ []) (trait_item_plan_after a) m (x, (y, tt)) ((plans_marked.1.0 a).1.0).1
+      go false false true x y z w = is_kept k ts (went false ∷ went false ∷ went true ∷ marked ∷ []) (trait_item_plan_after a) m (x, (y, (z, tt))) ((plans_marked.1.0 a).1.1.0).1
       go false false false x y z w = absurd (true≢false (sym w))
 
   module _ (unmarked : marked_next m ≡ false) where
@@ -59,9 +59,9 @@ module _ (k : Rule) (ts : Stream) (a : Syntax) (m : Stream) where
 
     -- A TYPE
     type_goes : sees (at_word w_type) m ≡ true → run ≡ wrap (λ s. Node (Case trait_type s)) (wrap (Both a) (parse_rule bare_trait_type m))
-    unfolding trait_item_plan_behind trait_item_plan
+    unfolding trait_item_plan_after trait_item_plan
     type_goes h =
-        happened k ts (went false ∷ went false ∷ went false ∷ went true ∷ []) (trait_item_plan_behind a) m (not_pub, (not_group, (not_default, (h, tt))))
+        happened k ts (went false ∷ went false ∷ went false ∷ went true ∷ []) (trait_item_plan_after a) m (not_pub, (not_group, (not_default, (h, tt))))
         ∙ row_is k ts (plainly (word w_type)) (plainly name ∷ rule generics ∷ vanishing false at_colon (punctuation colon & rule type_bounds) ∷ optional_type ∷ rule where_clause ∷ punctuation semicolon ∷ [])
         (λ s. ends (Node (Case trait_type (Both a (Node (Both (Unshown Nothing) s)))))) m
         ∙ of_hidden trait_type a (parse_form (plainly (word w_type) & plainly name & rule generics & vanishing false at_colon (punctuation colon & rule type_bounds) & optional_type & rule where_clause & punctuation semicolon) m)
@@ -76,14 +76,14 @@ module _ (k : Rule) (ts : Stream) (a : Syntax) (m : Stream) where
     module _ (no_type : sees (at_word w_type) m ≡ false) where
       -- A FUNCTION
       function_goes : function_next m ≡ true → run ≡ wrap (λ s. Node (Case trait_function s)) (wrap (Both a) (parse_rule bare_trait_function m))
-      unfolding trait_item_plan_behind trait_item_plan
+      unfolding trait_item_plan_after trait_item_plan
       function_goes h = go (sees (at_word w_const) m) refl h ∙ trait_function_goes k ts a m
         where
-          go : (c : Bool) → sees (at_word w_const) m ≡ c → pick c (sees at_function (past m)) (sees at_function m) ≡ true → run_plan (trait_item_plan_behind a) k ts m ≡ follow (λ s r. run_plan (trait_function_end a s) k ts r) (parse_rule signature m)
+          go : (c : Bool) → sees (at_word w_const) m ≡ c → pick c (sees at_function (past m)) (sees at_function m) ≡ true → run_plan (trait_item_plan_after a) k ts m ≡ follow (λ s r. run_plan (trait_function_end a s) k ts r) (parse_rule signature m)
           go true e i =
-              happened k ts (went false ∷ went false ∷ went false ∷ went false ∷ went true ∷ []) (trait_item_plan_behind a) m (not_pub, (not_group, (not_default, (no_type, (e, tt)))))
+              happened k ts (went false ∷ went false ∷ went false ∷ went false ∷ went true ∷ []) (trait_item_plan_after a) m (not_pub, (not_group, (not_default, (no_type, (e, tt)))))
               ∙ function_on k ts (trait_function_end a) (trait_const_plan a) m e i
-          go false e i = happened k ts (went false ∷ went false ∷ went false ∷ went false ∷ went false ∷ went true ∷ []) (trait_item_plan_behind a) m (not_pub, (not_group, (not_default, (no_type, (e, (i, tt))))))
+          go false e i = happened k ts (went false ∷ went false ∷ went false ∷ went false ∷ went false ∷ went true ∷ []) (trait_item_plan_after a) m (not_pub, (not_group, (not_default, (no_type, (e, (i, tt))))))
 
       pub function_read : (t : Syntax) (r : Stream) → function_next m ≡ true → wrap (Both a) (parse_rule bare_trait_function m) ≡ Some (t, r) → run ≡ Some (Node (Case trait_function t), r)
       function_read t r h e = function_goes h ∙ ap (wrap (λ s. Node (Case trait_function s))) e
@@ -94,9 +94,9 @@ module _ (k : Rule) (ts : Stream) (a : Syntax) (m : Stream) where
       module _ (no_function : function_next m ≡ false) where
         -- A CONSTANT
         const_goes : sees (at_word w_const) m ≡ true → run ≡ run_plan (trait_const_or_kept a) k ts m
-        unfolding trait_item_plan_behind trait_item_plan
+        unfolding trait_item_plan_after trait_item_plan
         const_goes h =
-            happened k ts (went false ∷ went false ∷ went false ∷ went false ∷ went true ∷ []) (trait_item_plan_behind a) m (not_pub, (not_group, (not_default, (no_type, (h, tt)))))
+            happened k ts (went false ∷ went false ∷ went false ∷ went false ∷ went true ∷ []) (trait_item_plan_after a) m (not_pub, (not_group, (not_default, (no_type, (h, tt)))))
             ∙ other_on k ts (trait_function_end a) (trait_const_plan a) m (sym (ap (λ b. pick b (sees at_function (past m)) (sees at_function m)) h) ∙ no_function)
 
         pub const_follows : {X E : Type 0} (refusal : E → Type 0) (view : X → Syntax) (x : Result (Option X) E) (new : Stream) → sees (at_word w_const) m ≡ true →
@@ -109,15 +109,15 @@ module _ (k : Rule) (ts : Stream) (a : Syntax) (m : Stream) where
 
           -- A MACRO
           pub self_refused : sees (at_word w_Self_type) m ≡ true → run ≡ None
-          unfolding trait_item_plan_behind trait_item_plan
+          unfolding trait_item_plan_after trait_item_plan
           self_refused h =
-              is_refused k ts (went false ∷ went false ∷ went false ∷ went false ∷ went false ∷ went false ∷ went true ∷ []) (trait_item_plan_behind a) m
+              is_refused k ts (went false ∷ went false ∷ went false ∷ went false ∷ went false ∷ went false ∷ went true ∷ []) (trait_item_plan_after a) m
               (not_pub, (not_group, (not_default, (no_type, (no_const, (not_function, (sees_or (at_word w_Self_type) (at_word w_default) m ∙ ap (λ b. or b (sees (at_word w_default) m)) h, tt))))))) tt
 
           macro_goes : sees (at_word w_Self_type) m ≡ false → run ≡ wrap (λ s. Node (Case trait_macro_as_item (Both a (Right s)))) (parse_rule member_macro m)
-          unfolding trait_item_plan_behind trait_item_plan
+          unfolding trait_item_plan_after trait_item_plan
           macro_goes h =
-              happened k ts (went false ∷ went false ∷ went false ∷ went false ∷ went false ∷ went false ∷ went false ∷ []) (trait_item_plan_behind a) m
+              happened k ts (went false ∷ went false ∷ went false ∷ went false ∷ went false ∷ went false ∷ went false ∷ []) (trait_item_plan_after a) m
               (not_pub, (not_group, (not_default, (no_type, (no_const, (not_function, (sees_or (at_word w_Self_type) (at_word w_default) m ∙ ap (λ b. or b (sees (at_word w_default) m)) h ∙ not_default, tt)))))))
               ∙ row_is k ts (rule module_path) ((when at_bang then asking_punctuation exclamation else never) ∷ rule macro_end ∷ []) (λ s. ends (Node (Case trait_macro_as_item (Both a (Right (Node s)))))) m
               ∙ of_macro trait_macro_as_item a (parse_form (rule module_path & (when at_bang then asking_punctuation exclamation else never) & rule macro_end) m)
@@ -133,7 +133,7 @@ module _ (k : Rule) (ts : Stream) (a : Syntax) (m : Stream) where
           pub macro_refused : sees (at_word w_Self_type) m ≡ false → wrap (Both a) (parse_rule member_macro m) ≡ None → run ≡ None
           macro_refused h e = macro_goes h ∙ attributed (parse_rule member_macro m) ∙ ap (wrap (λ s. Node (Case trait_macro_as_item (among_members s)))) e
 
--- A CONSTANT that is kept as tokens: with generics, or with a where clause
+-- A CONSTANT that is kept verbatim: with generics, or with a where clause
 module _ (k : Rule) (ts : Stream) (a c n : Syntax) (m r q : Stream) (word_read : parse_form (plainly (word w_const)) m ≡ Some (c, r)) (name_read : parse_form name_or_underscore r ≡ Some (n, q)) where
   pub generics_kept : sees at_less q ≡ true → OnlyKept k ts (run_plan (trait_const_or_kept a) k ts m)
   unfolding trait_const_plan kept_end

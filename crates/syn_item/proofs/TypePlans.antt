@@ -1,4 +1,4 @@
--- Type aliases, by the plan of items: with a colon behind their generics, or without `=`, they are kept as tokens.
+-- Type aliases, by the plan of items: followed by a colon generics, or without `=`, they are kept verbatim.
 use Rattle.std.proofs.Common.{◌≡◌, Bool, true, false, [], ◌∷◌, Some, None, refl, sym, ap, subst, ◌∙◌}
 use Rattle.syn_grammar.specs.Words.{equals, semicolon, w_type}
 use Rattle.syn_grammar.specs.Tokens.{Stream}
@@ -30,20 +30,20 @@ module _ (k : Rule) (ts : Stream) (a v : Syntax) (m : Stream) where
   abbrev run : Out
   run = run_plan (type_plan a v) k ts m
 
-  abbrev behind_head : Syntax → Plan
-  behind_head h = left_over (took (left_part h) m ∷ took (left_part (right_part h)) m ∷ took (right_part (right_part h)) m ∷ []) (type_plan a v)
+  abbrev after_head : Syntax → Plan
+  after_head h = left_over (took (left_part h) m ∷ took (left_part (right_part h)) m ∷ took (right_part (right_part h)) m ∷ []) (type_plan a v)
 
   pub head_refused : parse_form type_head_form m ≡ None → run ≡ None
   unfolding type_plan
-  head_refused e = row_refused k ts (plainly (word w_type)) (plainly name ∷ rule generics ∷ []) behind_head m e
+  head_refused e = row_refused k ts (plainly (word w_type)) (plainly name ∷ rule generics ∷ []) after_head m e
 
   module _ (t n g : Syntax) (q : Stream) (head : parse_form type_head_form m ≡ Some (Both t (Both n g), q)) where
     abbrev of_type : Plan
-    of_type = behind_head (Both t (Both n g))
+    of_type = after_head (Both t (Both n g))
 
     past_head : run ≡ run_plan of_type k ts q
     unfolding type_plan
-    past_head = row_read k ts (plainly (word w_type)) (plainly name ∷ rule generics ∷ []) behind_head m (Both t (Both n g)) q head
+    past_head = row_read k ts (plainly (word w_type)) (plainly name ∷ rule generics ∷ []) after_head m (Both t (Both n g)) q head
 
     pub colon_kept : sees at_colon q ≡ true → OnlyKept k ts run
     unfolding type_plan kept_end

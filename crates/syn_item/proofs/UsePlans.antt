@@ -1,4 +1,4 @@
--- Uses, by the plan of items: with `::` before a tree of their braces they are kept as tokens.
+-- Uses, by the plan of items: with `::` before a tree of their braces they are kept verbatim.
 use Rattle.std.proofs.Common.{◌≡◌, Bool, true, false, [], ◌∷◌, Some, None, refl, sym, ap, subst, ◌∙◌, true≢false}
 use Rattle.syn_grammar.specs.Words.{colons, semicolon, w_pub, w_use}
 use Rattle.syn_grammar.specs.Tokens.{Brace, Stream, at_empty_group, at_word, no, or}
@@ -40,7 +40,7 @@ module _ (k : Rule) (ts : Stream) (a v : Syntax) (m : Stream) (at_use : sees (at
   abbrev of_use : Out → Out
   of_use o = wrap (λ t. Node (Case use_item t)) (wrap (λ s. Both a (Node (Both v s))) o)
 
-  -- what is read behind `use`
+  -- what is read after `use`
   abbrev behind_word : Syntax → Stream → Bool → Out
   behind_word w r b = of_use (wrap (Both w) (and_then (branch b (such_as (has_no root_mark) (parse_form group_form r)) (parse_form (colons_form & rule use_tree) r)) (parse_form end_form)))
 
@@ -102,7 +102,7 @@ module _ (k : Rule) (ts : Stream) (a v : Syntax) (m : Stream) (at_use : sees (at
       go true i = only_kept (take_mark semicolon q.1)
       go false i = nothing (take_mark semicolon q.1) i
 
-  -- BEHIND THE WORD
+  -- AFTER THE WORD
   abbrev words : Syntax → Stream → Bool → Out
   words w r b = by_test b (group_goes w (parse_form group_form r)) (tree_goes w r)
 

@@ -39,7 +39,7 @@ print_used (Some sign) tree = refl
 print_used None (Node (Right (Left (Group d o c (Node l))))) = ap (λ x. group d o c x end) (print_rooted l)
 print_used None tree = refl
 
--- TREES IN BRACES behind `use` are read by a rule of their own, as such trees of which none has `::` before it
+-- TREES IN BRACES after `use` are read by a rule of their own, as such trees of which none has `::` before it
 
 -- as that rule reads a group of trees
 abbrev rooted_group : Syntax → Syntax
@@ -101,12 +101,12 @@ first_turn b x y e = ap (λ c. branch c x y) e
 second_turn : (b : Bool) (x y : Out) → b ≡ false → branch b x y ≡ wrap Right y
 second_turn b x y e = ap (λ c. branch c x y) e
 
--- a tree where braces stand next
+-- a tree where braces are next
 tree_in_braces : (ts : Stream) → sees at_brace ts ≡ true → parse_rule use_tree ts ≡ wrap Node (wrap Right (wrap Left (within Brace (take_group Brace ts) (parse_rule use_trees))))
 tree_in_braces ts h =
     use_tree_is ts ∙ ap (wrap Node) (second_turn _ _ _ (seen_apart at_brace at_star ts refl h) ∙ ap (wrap Right) (first_turn _ _ _ h))
 
--- an answer that is a group of a rule's answer
+-- a result that is a group of a rule's result
 abbrev IsGroup : Out → Type 0
 IsGroup None = Unit {0}
 IsGroup (Some (Group Brace o c (Node l), r)) = Unit {0}
@@ -163,7 +163,7 @@ plain_trees ts h = go (sees at_star ts) refl
     go true e = subst (λ o. as_plain o ≡ wrap as_used o) (sym (tree_is true e)) (starred (parse_form glob_form ts))
     go false e = subst (λ o. as_plain o ≡ wrap as_used o) (sym (tree_is false e)) (worded (parse_form word_form ts))
 
--- A USE BEHIND ITS ATTRIBUTES
+-- A USE AFTER ITS ATTRIBUTES
 module _ (a v : Syntax) where
   behind : (o : Out) → wrap (Both a) (wrap Node (wrap (Both v) o)) ≡ wrap (item_of a v) o
   behind None = refl

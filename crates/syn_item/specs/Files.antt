@@ -1,4 +1,4 @@
--- WHAT SYNTAX FILES STAND FOR, one level at a time, every field.
+-- THE SYNTAX OF FILES, one level at a time, every field.
 use Rattle.std.specs.Prelude.{String, string_bytes}
 use Rattle.std.specs.declared.alloc.Global.{Global}
 use Rattle.syn_grammar.specs.Tokens.{call_site, ident}

@@ -1,4 +1,4 @@
--- WHAT SYNTAX FOREIGN MODULES AND THEIR MEMBERS STAND FOR, one level at a time, every field.
+-- THE SYNTAX OF FOREIGN MODULES AND THEIR MEMBERS, one level at a time, every field.
 use Rattle.syn_grammar.specs.Tokens.{Brace}
 use Rattle.syn_grammar.specs.Rules.{foreign_function, foreign_macro_as_item, foreign_static, foreign_type, kept_foreign_item}
 use Rattle.syn_grammar.specs.Grammar.{Syntax, Nothing, Both, Node, Case, Captured}

@@ -1,4 +1,4 @@
--- HOW FOREIGN MODULES AND THEIR MEMBERS ARE READ: what their parts stand for together.
+-- HOW FOREIGN MODULES AND THEIR MEMBERS ARE READ: what their parts represent together.
 use Rattle.syn_grammar.specs.Grammar.{Syntax, Nothing, Both, Node, Unshown}
 use Rattle.syn_tokens.specs.Kinds.{colon_syntax, static_syntax}
 use Rattle.syn_tokens.specs.Leaves.{syntax_of_ident}

@@ -1,4 +1,4 @@
--- WHAT SYNTAX FUNCTIONS STAND FOR, one level at a time, every field.
+-- THE SYNTAX OF FUNCTIONS, one level at a time, every field.
 use Rattle.syn_grammar.specs.Grammar.{Syntax, Both, Node}
 use Rattle.syn_lower.specs.Bodies.{attributes_before_body, body}
 use Rattle.syn_tree.specs.Derive.{item_of}

@@ -1,4 +1,4 @@
--- HOW IMPLS AND THEIR MEMBERS ARE READ: forms of their parts, and what the parts stand for together.
+-- HOW IMPLS AND THEIR MEMBERS ARE READ: forms of their parts, and what the parts represent together.
 use Rattle.syn_grammar.specs.Words.{exclamation, equals, semicolon, w_const, w_default, w_type}
 use Rattle.std.specs.Prelude.{◌≡◌, None, Result, Ok, Err}
 use Rattle.syn_grammar.specs.Tokens.{Stream, at_generics}
@@ -22,18 +22,18 @@ use Rattle.syn_item.specs.declared.impls.members.MemberMarks.{MemberMarks}
 use Rattle.syn_item.specs.declared.impls.parsing.ImplMarks.{ImplMarks}
 use Rattle.syn_item.specs.declared.impls.parsing.ImplTypes.{ImplTypes}
 
--- what stands behind an impl's generics, and what ends it
+-- what follows an impl's generics, and what ends it
 abbrev pub implemented_form : Grammar
 implemented_form =
     when at_exclamation then punctuation exclamation & (when at_brace then rule impl_body else rule type_path & rule for_self_type & rule impl_body)
     else when at_module_path then rule type_path & (when at_for then rule for_self_type else empty) & rule impl_body
     else rule type & rule impl_body
 
--- generics, and what stands behind them
-abbrev pub behind_impl_form : Grammar
-behind_impl_form = generics_before (rule lifetime_parameter) parameter implemented_form
+-- generics, and what follows them
+abbrev pub after_impl_form : Grammar
+after_impl_form = generics_before (rule lifetime_parameter) parameter implemented_form
 
--- an impl of what stands before its generics, and of these and what stands behind them
+-- an impl of what is before its generics, and of these and what follows them
 abbrev pub impl_of : ImplMarks → Syntax → Syntax
 impl_of m s =
     Both (attributes_syntax m.attrs.items)
@@ -43,7 +43,7 @@ impl_of m s =
 abbrev pub types_before : ImplTypes → Syntax → Syntax
 types_before i rest = implemented (maybe not_syntax i.polarity) (maybe (pair_of itself for_syntax) i.trait_) (syntax_of_Type i.self_ty.value) rest
 
--- What stands before the end of an impl, by what reads on: `!` and what follows it, a path and what follows it, or a type.
+-- What is before the end of an impl, by what reads on: `!` and what follows it, a path and what follows it, or a type.
 abbrev pub bang_then : (Stream → Out) → Stream → Out
 bang_then f ts =
     and_then (parse_form (punctuation exclamation) ts) (λ r. branch (sees at_brace r) (f r) (and_then (parse_rule type_path r) (λ q. and_then (parse_rule for_self_type q) f)))
@@ -56,12 +56,12 @@ types_then f ts =
     branch (sees at_exclamation ts) (bang_then f ts)
     (branch (sees at_module_path ts) (path_then f ts) (and_then (parse_rule type ts) f))
 
--- A part that others are read behind: whatever reads on, it goes on from here, and both are this together; or nothing is read.
+-- A part that others are read after: whatever reads on, it continues from here, and both are this together; or nothing is read.
 abbrev pub ReadsBefore : {X E : Type 0} → (E → Type 0) → (X → Syntax → Syntax) → ((Stream → Out) → Out) → Result X E → Stream → Type 0
 ReadsBefore refusal view out (Ok x) new = (f : Stream → Out) → out f ≡ wrap (view x) (f new)
 ReadsBefore refusal view out (Err e) new = refusal e → (f : Stream → Out) → out f ≡ None
 
--- generics, where they stand next and no type does
+-- generics, where they are next and no type does
 abbrev pub impl_generics_form : Grammar
 impl_generics_form = when at_generics then kept_generics else empty
 
@@ -83,7 +83,7 @@ type_head_syntax p = Both (type_syntax p.0) (Both (syntax_of_ident p.1) (first p
 abbrev pub type_rest_form : Grammar
 type_rest_form = punctuation equals & rule type & rule where_clause & punctuation semicolon
 
--- what stands before the words of a member: attributes, a visibility and perhaps `default`
+-- what is before the words of a member: attributes, a visibility and perhaps `default`
 abbrev pub member_marks_form : Grammar
 member_marks_form = rule attributes & rule visibility & optional w_default
 
@@ -94,12 +94,12 @@ member_marks_syntax m = Both (attributes_syntax m.attrs.items) (Both (syntax_of_
 abbrev pub impl_function_of : Syntax → Syntax → Syntax → Syntax → Syntax → Syntax
 impl_function_of a v d s b = Both a (Both v (Both d (Both s b)))
 
--- a constant of what stands before its word, of its head, and of its type and value
+-- a constant of what is before its word, of its head, and of its type and value
 abbrev pub const_rest_of : Syntax → Syntax → Syntax → Syntax
 const_rest_of (Both a (Both v d)) (Both k n) rest = Both a (Both v (Both d (Both k (Both n (Both (Unshown Nothing) rest)))))
 const_rest_of m h rest = rest
 
--- a type of what stands before its word, of its head, and of what stands behind its generics
+-- a type of what is before its word, of its head, and of what follows its generics
 abbrev pub type_rest_of : Syntax → Syntax → Syntax → Syntax
 type_rest_of (Both a (Both v d)) (Both k (Both n g)) rest = Both a (Both v (Both d (Both k (Both n (Both g rest)))))
 type_rest_of m h rest = rest

@@ -1,4 +1,4 @@
--- WHAT SYNTAX IMPLS AND THEIR MEMBERS STAND FOR, one level at a time, every field.
+-- THE SYNTAX OF IMPLS AND THEIR MEMBERS, one level at a time, every field.
 use Rattle.std.specs.Prelude.{Bool, false, true}
 use Rattle.syn_grammar.specs.Tokens.{Brace, or, pick}
 use Rattle.syn_grammar.specs.Rules.{impl_const, impl_function, impl_macro_as_item, impl_type, kept_impl_item, self_type}
@@ -65,7 +65,7 @@ abbrev pub kept_list : Syntax → Syntax
 kept_list (Node (Vanishing b s)) = s
 kept_list s = s
 
--- A part in which no self type stands, as that is looked for: a path, a type and a where clause hold none. (Of their syntax alone that isn't
+-- A part in which no self type is, as that is looked for: a path, a type and a where clause hold none. (Of their syntax alone that isn't
 -- known. What looks marked already is marked once more, so that no two parts become the same.)
 abbrev pub is_shaped : Syntax → Bool
 is_shaped (Shaped j s) = true
@@ -78,13 +78,13 @@ without_self_type s = pick (or (is_shaped s) (led_part (renew s))) (Shaped untag
 abbrev pub for_type : Syntax → Syntax → Syntax
 for_type for_token ty = Node (Both for_token (Case self_type (without_self_type ty)))
 
--- an impl without a trait, behind its generics: the never type, a plain path or another type, and the rest
+-- an impl without a trait, after its generics: the never type, a plain path or another type, and the rest
 abbrev pub inherent : Syntax → Syntax → Syntax
 inherent (Node (Right (Right (Right (Right (Left bang)))))) rest = Left (Both (without_self_type bang) (Left rest))
 inherent (Node (Right (Right (Right (Right (Right (Right (Node (Right path))))))))) rest = Right (Left (Both (without_self_type path) (Both (Right Nothing) rest)))
 inherent ty rest = Right (Right (Both (without_self_type ty) rest))
 
--- what stands behind an impl's generics. (Without a trait no `!` is read.)
+-- what follows an impl's generics. (Without a trait no `!` is read.)
 abbrev pub implemented : Syntax → Syntax → Syntax → Syntax → Syntax
 implemented (Right Nothing) (Right Nothing) ty rest = inherent ty rest
 implemented (Right Nothing) (Left (Both path for_token)) ty rest = Right (Left (Both (without_self_type path) (Both (Left (for_type for_token ty)) rest)))
@@ -102,14 +102,14 @@ view_ItemImpl a =
 abbrev pub syntax_of_ItemImpl : Syntax → Syntax
 syntax_of_ItemImpl = Node
 
--- of an impl, the generics and what stands behind them; and that alone
-abbrev pub behind_impl : Syntax → Syntax
-behind_impl (Both attrs (Node (Both defaultness (Both constness (Both unsafety (Both impl_token s)))))) = s
-behind_impl s = s
+-- of an impl, the generics and what follows them; and that alone
+abbrev pub after_impl : Syntax → Syntax
+after_impl (Both attrs (Node (Both defaultness (Both constness (Both unsafety (Both impl_token s)))))) = s
+after_impl s = s
 
-abbrev pub behind_list : Syntax → Syntax
-behind_list (Impl l s) = s
-behind_list s = s
+abbrev pub after_list : Syntax → Syntax
+after_list (Impl l s) = s
+after_list s = s
 
-abbrev pub behind_generics : Syntax → Syntax
-behind_generics s = behind_list (behind_impl s)
+abbrev pub after_generics : Syntax → Syntax
+after_generics s = after_list (after_impl s)

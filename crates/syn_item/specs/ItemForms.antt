@@ -29,7 +29,7 @@ use Rattle.syn_item.specs.declared.simple.aliases.Clauses.{Clauses}
 abbrev pub function_of : Syntax → Syntax → Syntax → Syntax → Syntax
 function_of attrs vis sig body = item_of attrs vis (Both (Unshown Nothing) (Both sig body))
 
--- CONSTANTS AND STATICS behind their visibility
+-- CONSTANTS AND STATICS after their visibility
 
 -- a type, a value and `;`
 abbrev pub value_form : Grammar
@@ -41,7 +41,7 @@ const_form = unshown & item_word w_const & name_or_underscore & unshown & value_
 abbrev pub static_form : Grammar
 static_form = item_word w_static & optional w_mut & plainly name & value_form
 
--- TYPE ALIASES behind their visibility
+-- TYPE ALIASES after their visibility
 
 abbrev pub aliased_form : Grammar
 aliased_form = such one_where (rule where_clause & punctuation equals & rule type & rule where_clause)
@@ -49,36 +49,36 @@ aliased_form = such one_where (rule where_clause & punctuation equals & rule typ
 abbrev pub type_form : Grammar
 type_form = unshown & plainly (word w_type) & plainly name & rule generics & unshown & aliased_form & punctuation semicolon
 
--- behind the generics
+-- after the generics
 abbrev pub alias_end_form : Grammar
 alias_end_form = aliased_form & punctuation semicolon
 
--- a type alias of its attributes, its visibility, `type`, its name and its generics, and what stands behind these
+-- a type alias of its attributes, its visibility, `type`, its name and its generics, and what follows these
 abbrev pub alias_syntax : Syntax → Syntax → Syntax → Syntax → Syntax → Syntax → Syntax
 alias_syntax attrs vis token ident params s = item_of attrs vis (Both (Unshown Nothing) (Both token (Both ident (Both params (Both (Unshown Nothing) s)))))
 
 abbrev pub aliased_syntax : AliasParts → Syntax
 aliased_syntax a = aliased (syntax_of_WhereClausePlacement a.placement) (where_part a.where_clause) (eq_syntax a.eq_token) (syntax_of_Type a.ty.value)
 
--- the place of a clause that stands behind the type (true), or before it
+-- the place of a clause that follows the type (true), or before it
 abbrev pub place_by : Bool → WhereClausePlacement-m.the_data
 place_by true = WhereClausePlacement-m.Late
 place_by false = WhereClausePlacement-m.Early
 
--- what is told of an alias by whether a clause stands before `=` and behind the type: nothing is read where both do
-abbrev pub told_alias : Bool → Bool → Syntax → Syntax → Syntax → Syntax → Stream → Out
-told_alias is_early is_late w q t x m = only (no (and is_early is_late)) (Some (aliased (syntax_of_WhereClausePlacement (place_by is_late)) (pick is_late x w) q t, m))
+-- an alias by whether a clause is before `=` and after the type: nothing is read if both are
+abbrev pub known_alias : Bool → Bool → Syntax → Syntax → Syntax → Syntax → Stream → Out
+known_alias is_early is_late w q t x m = only (no (and is_early is_late)) (Some (aliased (syntax_of_WhereClausePlacement (place_by is_late)) (pick is_late x w) q t, m))
 
 -- the same of the clauses, `=` and the type that were read
 abbrev pub of_clauses : Clauses → Stream → Out
-of_clauses c m = told_alias c.is_early c.is_late (where_part c.early) (eq_syntax c.eq_token) (syntax_of_Type c.ty.value) (where_part c.late) m
+of_clauses c m = known_alias c.is_early c.is_late (where_part c.early) (eq_syntax c.eq_token) (syntax_of_Type c.ty.value) (where_part c.late) m
 
 -- where they are refused, nothing is read
 abbrev pub TellsAlias : {E : Type 0} → (E → Type 0) → Out → Result Clauses E → Stream → Type 0
 TellsAlias refusal out (Ok c) new = out ≡ of_clauses c new
 TellsAlias refusal out (Err e) new = refusal e → out ≡ None
 
--- TRAIT ALIASES behind their generics
+-- TRAIT ALIASES after their generics
 
 abbrev pub bounds_end_form : Grammar
 bounds_end_form = punctuation equals & rule alias_bounds & rule where_clause & punctuation semicolon
@@ -86,7 +86,7 @@ bounds_end_form = punctuation equals & rule alias_bounds & rule where_clause & p
 abbrev pub bounds_end_syntax : Eq × Sequence TypeParamBound-m.the_data Plus × Option Syntax × Semi → Syntax
 bounds_end_syntax p = Both (eq_syntax p.0) (Both (list_of syntax_of_TypeParamBound plus_syntax p.1.pairs p.1.last) (Both (where_part p.2) (semi_syntax p.3)))
 
--- EXTERN CRATES behind their visibility
+-- EXTERN CRATES after their visibility
 
 abbrev pub rename_form : Grammar
 rename_form = when at_word w_as then plainly (word w_as) & name_or_underscore else empty
@@ -94,7 +94,7 @@ rename_form = when at_word w_as then plainly (word w_as) & name_or_underscore el
 abbrev pub crate_form : Grammar
 crate_form = plainly (word w_extern) & plainly (word w_crate) & plainly (name_or (w_self ∷ [])) & rename_form & punctuation semicolon
 
--- MODULES behind their visibility and `unsafe`
+-- MODULES after their visibility and `unsafe`
 
 -- inner attributes and items in braces
 abbrev pub items_syntax : List Attribute → kinds.Brace → Syntax → Syntax

@@ -1,4 +1,4 @@
--- TURNS OF THE PLAN OF ITEMS: what is left of it where a word says what goes on.
+-- TURNS OF THE PLAN OF ITEMS: what is left of it where a word says what continues.
 use Rattle.std.specs.Prelude.{Bool, true, false, Some, None}
 use Rattle.syn_grammar.specs.Words.{w_auto, w_async, w_const, w_crate, w_default, w_extern, w_fn, w_impl, w_macro, w_mod, w_pub, w_trait, w_unsafe}
 use Rattle.syn_grammar.specs.Tokens.{Stream, Before_macro, Begins_item, ahead, and, at_empty_group, at_word, no, ◌and_also◌, ◌or_else◌, pick}
@@ -12,11 +12,11 @@ use Rattle.syn_grammar.specs.Run.{parse_form}
 use Rattle.syn_grammar.specs.Plan.{Plan, ends, keeps, reads, turns}
 use Rattle.syn_grammar.specs.ItemPlan.{Place, public, unwritten, plain, absent, bare_impl_plan, behind_const, const_plan, definition_plan, extern_crate_plan, extern_plan, function_end, impl_of, impl_plan, kept_impl, module_plan, other_plan, restricted_end, signature_end, trait_or_alias, trait_plan, unsafe_plan}
 
--- where an item stands, by what stands next
+-- the place of an item, by the next token
 abbrev pub place_next : Stream → Place
 place_next ts = pick (sees (at_word w_pub) ts) public (pick (sees at_empty_group ts) unwritten plain)
 
--- no visibility stands before it
+-- no visibility is before it
 abbrev pub no_visibility : Place → Bool
 no_visibility public = false
 no_visibility unwritten = false
@@ -60,7 +60,7 @@ const_or_kept_turn a v = reads (item_word w_const) λ c. const_plan a v c
 abbrev pub default_impl_turn : Syntax → Plan
 default_impl_turn a = reads (item_word w_default) λ d. reads (optional_item_word w_const) λ c. reads (optional_item_word w_unsafe) λ u. impl_plan a (Left d) c u
 
--- the kinds behind the first seven
+-- the kinds after the first seven
 abbrev pub other_kinds_turn : Place → Syntax → Syntax → Plan
 other_kinds_turn p a v =
     turns (at_word w_trait) (trait_or_alias a v)
@@ -73,7 +73,7 @@ other_kinds_turn p a v =
     (turns (at_word w_impl) (bare_impl_plan p a)
     (other_plan p a))))))))
 
--- an impl of a type in parentheses that hold one word, or a trait behind such a restriction, behind `impl`
+-- an impl of a type in parentheses that hold one word, or a trait after such a restriction, after `impl`
 abbrev pub lone_word_turn : Syntax → Syntax → Syntax → Syntax → Syntax → Plan
 lone_word_turn a d c u k =
     reads (rule type) λ t.
@@ -81,7 +81,7 @@ lone_word_turn a d c u k =
     (turns (at_where or_else at_brace) (reads (rule impl_body) λ b. ends (impl_of a d c u k absent (Right (Right (Both t b)))))
     (keeps restricted_end))
 
--- behind an ABI, perhaps with `unsafe` before it, stand braces
+-- braces follow an ABI, perhaps with `unsafe` before it
 abbrev pub braces_next : Out → Bool
 braces_next (Some p) = sees at_brace p.1
 braces_next None = false

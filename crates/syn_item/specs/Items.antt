@@ -1,9 +1,12 @@
--- WHAT SYNTAX ITEMS STAND FOR: each by its kind.
+-- THE SYNTAX OF ITEMS: each by its kind.
+-- Written by tools/kinds.py down to the next such comment; edits are lost.
 use Rattle.syn_grammar.specs.Rules.{const_item, enumeration, extern_crate, foreign_module, function, impl_definition, kept_item, macro_as_item, module_item, static_item, structure, trait_alias, trait_definition, type_item, union_item, use_item}
+-- End of the part that tools/kinds.py writes.
 use Rattle.syn_grammar.specs.Grammar.{Syntax, Nothing, Node, Case, Captured}
 use Rattle.syn_item.specs.Macros.{among_items}
 use Rattle.syn_item.specs.declared.item.Item.TheVariants as Item-m
 
+-- Written by tools/kinds.py down to the next such comment; edits are lost.
 abbrev pub syntax_of_Item : Item-m.the_data → Syntax
 syntax_of_Item (Item-m.Const t) = Node (Case const_item t)
 syntax_of_Item (Item-m.Enum t) = Node (Case enumeration t)
@@ -21,6 +24,8 @@ syntax_of_Item (Item-m.Ty t) = Node (Case type_item t)
 syntax_of_Item (Item-m.Union t) = Node (Case union_item t)
 syntax_of_Item (Item-m.Use t) = Node (Case use_item t)
 syntax_of_Item (Item-m.Verbatim tokens) = Node (Case kept_item (Captured Nothing tokens))
+
+-- End of the part that tools/kinds.py writes.
 
 -- the item that the input of a derive is
 abbrev pub item_in : Syntax → Item-m.the_data

@@ -1,4 +1,4 @@
--- WHAT SYNTAX MACROS AMONG ITEMS AND MEMBERS STAND FOR, one level at a time, every field.
+-- THE SYNTAX OF MACROS AMONG ITEMS AND MEMBERS, one level at a time, every field.
 use Rattle.std.specs.Prelude.{Some, None}
 use Rattle.syn_grammar.specs.Words.{semicolon}
 use Rattle.syn_grammar.specs.Take.{Parser, take_mark}
@@ -12,7 +12,7 @@ use Rattle.syn_item.specs.declared.impls.ImplItemMacro.TheInside as ImplItemMacr
 use Rattle.syn_item.specs.declared.simple.ItemMacro.TheInside as ItemMacro-in
 use Rattle.syn_item.specs.declared.traits.TraitItemMacro.TheInside as TraitItemMacro-in
 
--- a macro's group, whichever delimiters it has, with `;` behind it or without it (what is no group is told from one with `;` behind it)
+-- a macro's group, whichever delimiters it has, followed by `;` or without it (what is no group is distinguished from one followed by `;`)
 abbrev pub ended_group : Syntax → Syntax → Syntax
 ended_group semi_token (Left s) = Left (ended_group semi_token s)
 ended_group semi_token (Right s) = Right (ended_group semi_token s)
@@ -54,7 +54,7 @@ view_ForeignItemMacro a = Both (attributes_syntax a.attrs.items) (ended_macro (m
 abbrev pub syntax_of_ForeignItemMacro : Syntax → Syntax
 syntax_of_ForeignItemMacro = Node
 
--- AMONG OTHERS, where some paths are refused: what stands behind the attributes is read by a rule, or in a form, of its own
+-- AMONG OTHERS, where some paths are refused: what follows the attributes is read by a rule, or in a form, of its own
 
 abbrev pub among_items : Syntax → Syntax
 among_items (Both attrs rest) = Both attrs (Node (Right rest))
@@ -64,10 +64,10 @@ abbrev pub among_members : Syntax → Syntax
 among_members (Both attrs rest) = Both attrs (Right rest)
 among_members s = s
 
--- AS A GROUP IS READ, with what ends it: `;` behind it, unless it is in braces
+-- AS A GROUP IS READ, followed by what ends it: `;`, unless it is in braces
 
-unfoldable pub ended_behind : Syntax → Parser
-ended_behind (Right (Right s)) ts = Some (Right (Right s), ts)
-ended_behind (Right (Left s)) ts = wrap (λ semi. Right (Left (Both s semi))) (take_mark semicolon ts)
-ended_behind (Left s) ts = wrap (λ semi. Left (Both s semi)) (take_mark semicolon ts)
-ended_behind s ts = None
+unfoldable pub ended_after : Syntax → Parser
+ended_after (Right (Right s)) ts = Some (Right (Right s), ts)
+ended_after (Right (Left s)) ts = wrap (λ semi. Right (Left (Both s semi))) (take_mark semicolon ts)
+ended_after (Left s) ts = wrap (λ semi. Left (Both s semi)) (take_mark semicolon ts)
+ended_after s ts = None

@@ -13,12 +13,12 @@ abbrev pub generics_aside : Syntax → Syntax
 generics_aside (Both (Node (Vanishing false (Right Nothing))) (Unshown Nothing)) = Unshown Nothing
 generics_aside generics = Unshown (Left generics)
 
--- in braces, behind inner attributes
-abbrev pub behind_inner : Syntax → Syntax → Syntax
-behind_inner inner (Group d o c s) = Group d o c (Both inner s)
-behind_inner inner s = Both inner s
+-- in braces, after inner attributes
+abbrev pub after_inner : Syntax → Syntax → Syntax
+after_inner inner (Group d o c s) = Group d o c (Both inner s)
+after_inner inner s = Both inner s
 
--- members in order, as a rule that goes on to the end reads them
+-- members in order, as a rule that continues to the end reads them
 abbrev pub members_of : {T : Type 0} → (T → Syntax) → List T → Syntax
 members_of view [] = Node (Left Nothing)
 members_of view (x ∷ l) = Node (Right (Both (view x) (members_of view l)))

@@ -1,4 +1,4 @@
--- WHAT MANY ITEMS ARE READ WITH: forms of their parts, and what the parts stand for.
+-- WHAT MANY ITEMS ARE READ WITH: forms of their parts, and what the parts represent.
 use Rattle.std.specs.Prelude.{◌≡◌, false, List, [], ◌∷◌, Some}
 use Rattle.syn_grammar.specs.Tokens.{Stream, Brace, ended}
 use Rattle.syn_grammar.specs.Rules.{Rule, inner_attributes}

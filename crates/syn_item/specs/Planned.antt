@@ -7,12 +7,12 @@ use Rattle.syn_grammar.specs.Grammar.{Syntax}
 use Rattle.syn_grammar.specs.Take.{Out, before}
 use Rattle.syn_grammar.specs.Plan.{kept_as}
 
--- what is read, if anything, is kept as tokens, of this rule and from this stream on
+-- what is read, if anything, is kept verbatim, of this rule and from this stream on
 abbrev pub OnlyKept : Rule → Stream → Out → Type 0
 OnlyKept k ts (Some p) = p.0 ≡ kept_as k ts p.1
 OnlyKept k ts None = Unit {0}
 
--- Where a plan goes on from a place, with what it reads from there: this value's tree and this rest; or nothing is told but that all is kept
+-- Where a plan continues from a place, with what it reads from there: this value's tree and this rest; or nothing is known but that all is kept
 -- as tokens; or it reads nothing.
 abbrev pub Follows : {X E : Type 0} → (E → Type 0) → (X → Syntax) → Rule → Stream → Out → Result (Option X) E → Stream → Type 0
 Follows refusal view k ts out (Ok (Some x)) new = out ≡ Some (view x, new)

@@ -26,14 +26,14 @@ use Rattle.syn_item.specs.declared.sig.parameters.OneParameter.TheVariants as On
 use Rattle.syn_item.specs.declared.sig.parameters.ParameterList.{ParameterList}
 use Rattle.syn_item.specs.declared.sig.parsing.Qualifiers.{Qualifiers}
 
--- WHAT STANDS BEFORE `fn`, and a signature behind it
+-- BEFORE `fn`, and a signature after it
 
 abbrev pub qualifiers_syntax : Qualifiers → Syntax
 qualifiers_syntax q = Both (maybe const_syntax q.constness) (Both (maybe async_syntax q.asyncness) (Both (syntax_of_Safety q.safety) (maybe itself q.abi)))
 
-abbrev pub behind_qualifiers : Syntax → Syntax → Syntax
-behind_qualifiers (Both constness (Both asyncness (Both safety abi))) rest = Node (Both constness (Both asyncness (Both safety (Both abi rest))))
-behind_qualifiers s rest = Both s rest
+abbrev pub after_qualifiers : Syntax → Syntax → Syntax
+after_qualifiers (Both constness (Both asyncness (Both safety abi))) rest = Node (Both constness (Both asyncness (Both safety (Both abi rest))))
+after_qualifiers s rest = Both s rest
 
 -- a string, or nothing
 abbrev pub string_form : Grammar
@@ -43,7 +43,7 @@ string_form = when at_literal Str then plainly (literal_of (Str ∷ [])) else em
 abbrev pub parameters_syntax : kinds.Paren × ParameterList → Syntax
 parameters_syntax p = group_syntax Paren p.0 (parameters_of (list_of syntax_of_FnArg comma_syntax p.1.inputs.pairs p.1.inputs.last) (maybe itself p.1.variadic))
 
--- what stands behind them
+-- what follows them
 abbrev pub end_form : Grammar
 end_form = rule return_type & rule where_clause
 
@@ -52,7 +52,7 @@ end_syntax p = Both (syntax_of_ReturnType p.0) (where_part p.1)
 
 -- RECEIVERS
 
--- behind these attributes
+-- after these attributes
 abbrev pub with_attributes : Syntax → Syntax → Syntax
 with_attributes attrs s = Node (Both attrs s)
 
@@ -63,18 +63,18 @@ own_self_form = plainly (word w_self) & (when at_colons then never else empty)
 abbrev pub reference_form : Grammar
 reference_form = punctuation ampersand & (when at_lifetime then lifetime else empty) & optional w_mut & unshown & own_self_form
 
--- what stands behind `self`
+-- what follows `self`
 abbrev pub kind_form : Grammar
 kind_form = when at_colon then punctuation colon & rule type else empty
 
 -- PARAMETERS
 
--- `_` where the next token stands
+-- `_` at the next token
 abbrev pub wild_at : Option Span → Syntax
 wild_at (Some sp) = Node (Left (Token (ident w_underscore) sp))
 wild_at None = Nothing
 
--- `_` and `:` where the next token stands
+-- `_` and `:` at the next token
 abbrev pub supplied_name : Option Span → Stream → Option (Syntax × Stream)
 supplied_name (Some sp) ts = Some (Both (wild_at (Some sp)) (Mark ((58, sp) ∷ [])), ts)
 supplied_name None ts = None
@@ -83,36 +83,36 @@ supplied_name None ts = None
 unfoldable pub named_pattern : Parser
 named_pattern ts = pick (sees (at_unnamed Before_less) ts) (supplied_name (leaf_span ts) ts) (parse_form (rule pattern & punctuation colon) ts)
 
--- with a type, behind these attributes and this name
+-- with a type, after these attributes and this name
 abbrev pub typed_as : Syntax → Syntax → Syntax → Syntax
 typed_as attrs name ty = Node (Both attrs (Right (Both (first name) (Both (second name) ty))))
 
--- a variadic one, behind these attributes and this name
+-- a variadic one, after these attributes and this name
 abbrev pub of_variadic : Syntax → Syntax → Syntax → Syntax
 of_variadic attrs name s = Both attrs (Both name s)
 
--- a parameter alone that is no receiver, behind its attributes
+-- a parameter alone that is no receiver, after its attributes
 unfoldable pub typed_parameter : Syntax → Parser
 typed_parameter attrs ts = after (named_pattern ts) (λ name m. wrap (typed_as attrs name) (parse_rule type m))
 
--- a parameter alone, behind its attributes
-abbrev pub argument_behind : Syntax → Parser
-argument_behind attrs ts = pick (sees at_receiver ts) (wrap receiver_argument (wrap (with_attributes attrs) (parse_rule receiver_rest ts))) (typed_parameter attrs ts)
+-- a parameter alone, after its attributes
+abbrev pub argument_after : Syntax → Parser
+argument_after attrs ts = pick (sees at_receiver ts) (wrap receiver_argument (wrap (with_attributes attrs) (parse_rule receiver_rest ts))) (typed_parameter attrs ts)
 
--- a parameter in parentheses: one in the list, or a variadic one behind it
+-- a parameter in parentheses: one in the list, or a variadic one after it
 abbrev pub parameter_syntax : OneParameter-m.the_data → Syntax
 parameter_syntax (OneParameter-m.Input arg) = Left (syntax_of_FnArg arg)
 parameter_syntax (OneParameter-m.Variadic v) = Right v
 
-unfoldable pub parameter_behind : Syntax → Syntax → Parser
-parameter_behind attrs name ts =
+unfoldable pub parameter_after : Syntax → Syntax → Parser
+parameter_after attrs name ts =
     pick (sees at_ellipsis ts) (wrap (λ v. Right (of_variadic attrs (Left (Both (first name) (second name))) v)) (parse_rule variadic ts)) (wrap (λ t. Left (typed_as attrs name t)) (parse_rule type ts))
 
 unfoldable pub other_parameter : Syntax → Parser
 other_parameter attrs ts =
-    pick (sees at_ellipsis ts) (wrap (λ v. Right (of_variadic attrs (Right Nothing) v)) (parse_rule variadic ts)) (after (named_pattern ts) (parameter_behind attrs))
+    pick (sees at_ellipsis ts) (wrap (λ v. Right (of_variadic attrs (Right Nothing) v)) (parse_rule variadic ts)) (after (named_pattern ts) (parameter_after attrs))
 
--- behind its attributes, the first (true) or a later one
+-- after its attributes, the first (true) or a later one
 abbrev pub next_parameter : Bool → Syntax → Parser
 next_parameter first attrs ts =
     pick (sees at_receiver ts) (pick first (wrap (λ s. Left (receiver_argument s)) (wrap (with_attributes attrs) (parse_rule receiver_rest ts))) None) (other_parameter attrs ts)
@@ -120,14 +120,14 @@ next_parameter first attrs ts =
 unfoldable pub read_parameter : Bool → Parser
 read_parameter first ts = after (parse_rule attributes ts) (next_parameter first)
 
--- what follows a parameter: behind a comma the others
-abbrev pub parameters_behind : Syntax → Parser
-parameters_behind (Left x) ts =
+-- what follows a parameter: after a comma the others
+abbrev pub parameters_after : Syntax → Parser
+parameters_after (Left x) ts =
     pick (sees at_comma ts) (after (take_mark comma ts) (λ sign m. wrap (λ l. Node (more_members parameters x sign l)) (parse_rule later_inputs m))) (Some (Node (one_member parameters x Nothing (Right Nothing)), ts))
-parameters_behind (Right v) ts = Some (Node (Shaped parameters (Both no_members (Left v))), ts)
-parameters_behind s ts = None
+parameters_after (Right v) ts = Some (Node (Shaped parameters (Both no_members (Left v))), ts)
+parameters_after s ts = None
 
--- the rule of the first parameter and those behind it, and the one of later parameters
+-- the rule of the first parameter and those after it, and the one of later parameters
 abbrev pub inputs_by : Bool → Parser
 inputs_by true = parse_rule inputs
 inputs_by false = parse_rule later_inputs

@@ -1,4 +1,4 @@
--- WHAT SYNTAX SIGNATURES STAND FOR, one level at a time, every field.
+-- THE SYNTAX OF SIGNATURES, one level at a time, every field.
 use Rattle.std.specs.Prelude.{Option, Some, None}
 use Rattle.syn_grammar.specs.Words.{comma}
 use Rattle.syn_grammar.specs.Tokens.{Paren, Stream, end}
@@ -30,13 +30,13 @@ syntax_of_Safety Safety-m.«Default» = Node (Right Nothing)
 
 -- RECEIVERS
 
--- what stands around the `self`
+-- what is around the `self`
 abbrev pub syntax_of_ReceiverKind : ReceiverKind-m.the_data → Syntax
 syntax_of_ReceiverKind ReceiverKind-m.Value = Right (Right Nothing)
 syntax_of_ReceiverKind (ReceiverKind-m.Reference sign lifetime mutability) = Left (Both (and_syntax sign) (Both (maybe syntax_of_lifetime lifetime) (maybe mut_syntax mutability)))
 syntax_of_ReceiverKind (ReceiverKind-m.Typed colon ty) = Right (Left (Both (colon_syntax colon) (syntax_of_Type ty.value)))
 
--- a receiver behind its attributes: behind `&` a `mut` of its own is never printed
+-- a receiver after its attributes: after `&` a `mut` of its own is never printed
 abbrev pub received : Syntax → Syntax → Syntax → Syntax
 received mutability self_token (Left (Both sign (Both lifetime reference_mut))) =
     Left (Both sign (Both lifetime (Both reference_mut (Both (aside mutability) (Both self_token (Right Nothing))))))
@@ -53,7 +53,7 @@ abbrev pub receiver_argument : Syntax → Syntax
 receiver_argument (Node (Both attrs receiver)) = Node (Both attrs (Left receiver))
 receiver_argument s = Left s
 
--- a pattern with its type as a parameter (such a pattern has no attributes where none stand before it, and not an empty list of them)
+-- a pattern with its type as a parameter (such a pattern has no attributes where none are before it, and not an empty list of them)
 abbrev pub typed_argument : Syntax → Syntax
 typed_argument (Both pat (Left (Both colon ty))) = Node (Both none_listed (Right (Both pat (Both colon ty))))
 typed_argument (Both (Node (Right (Unshown Nothing))) (Both pat (Left (Both colon ty)))) = Right (Both none_listed (Both pat (Left (Both colon ty))))
@@ -69,7 +69,7 @@ view_Variadic a =
     Both (attributes_syntax a.attrs.items)
     (Both (maybe (pair_of (λ b. syntax_of_Pat b.value) colon_syntax) a.pat) (Node (Both (dot_dot_dot_syntax a.dots) (Both (maybe comma_syntax a.comma) (Left Nothing)))))
 
--- parameters before a variadic one: a comma is printed behind the last of them in any case
+-- parameters before a variadic one: a comma is printed after the last of them in any case
 abbrev pub comma_behind : Syntax → Syntax
 comma_behind (Node (Right (Both x (Right Nothing)))) = Node (Right (Both x (Left (Both (Added comma) (Node (Left Nothing))))))
 comma_behind (Node (Right (Both x (Left (Both sign l))))) = Node (Right (Both x (Left (Both sign (comma_behind l)))))

@@ -1,5 +1,5 @@
--- WHAT SYNTAX ITEMS WITHOUT MEMBERS STAND FOR, one level at a time, every field.
--- A struct stands for what its rule's form reads, without the mark of the rule: an item tells by that of which kind it is.
+-- THE SYNTAX OF ITEMS WITHOUT MEMBERS, one level at a time, every field.
+-- A struct represents what its rule's form reads, without the mark of the rule, which decides the kind of an item.
 use Rattle.std.specs.Prelude.{false, Option}
 use Rattle.syn_grammar.specs.Words.{semicolon}
 use Rattle.syn_grammar.specs.Tokens.{Brace}
@@ -18,7 +18,7 @@ use Rattle.syn_lower.specs.Types.{syntax_of_Type}
 use Rattle.syn_tree.specs.Derive.{item_of}
 use Rattle.syn_tree.specs.Modifiers.{syntax_of_ConstModifiers, syntax_of_TypeModifiers}
 use Rattle.syn_tree.specs.Restriction.{syntax_of_Visibility}
-use Rattle.syn_item.specs.Parts.{aside, behind_inner, generics_aside}
+use Rattle.syn_item.specs.Parts.{aside, after_inner, generics_aside}
 use Rattle.syn_item.specs.declared.simple.ItemConst.TheInside as ItemConst-in
 use Rattle.syn_item.specs.declared.simple.ItemExternCrate.TheInside as ItemExternCrate-in
 use Rattle.syn_item.specs.declared.simple.ItemMod.TheInside as ItemMod-in
@@ -60,12 +60,12 @@ abbrev pub syntax_of_WhereClausePlacement : WhereClausePlacement-m.the_data → 
 syntax_of_WhereClausePlacement WhereClausePlacement-m.Early = Nothing
 syntax_of_WhereClausePlacement WhereClausePlacement-m.Late = Right Nothing
 
--- where a clause stands that isn't there
+-- where a clause would be that isn't there
 abbrev pub place_aside : Syntax → Syntax → Syntax
 place_aside place (Node (Vanishing false (Right Nothing))) = Unshown place
 place_aside place clause = Unshown Nothing
 
--- the clause before `=`, and the one behind the type
+-- the clause before `=`, and the one after the type
 abbrev pub early : Syntax → Syntax → Syntax
 early Nothing clause = clause
 early place clause = no_clause
@@ -74,7 +74,7 @@ abbrev pub late : Syntax → Syntax → Syntax
 late Nothing clause = no_clause
 late place clause = clause
 
--- `=` and a type, with a where clause before it or behind it
+-- `=` and a type, followed by a where clause before it or
 abbrev pub aliased : Syntax → Syntax → Syntax → Syntax → Syntax
 aliased place clause sign ty = Such (Both (early place clause) (Both sign (Both ty (late place clause))))
 
@@ -86,7 +86,7 @@ view_ItemType a =
     (Both (place_aside (syntax_of_WhereClausePlacement a.where_clause_placement) (clause_of a.generics))
     (Both (aliased (syntax_of_WhereClausePlacement a.where_clause_placement) (clause_of a.generics) (eq_syntax a.eq_token) (syntax_of_Type a.ty.value)) (semi_syntax a.semi_token)))))))
 
--- of a type alias: the place of a where clause that isn't there, and what it stands for
+-- of a type alias: the place of a where clause that isn't there, and what it represents
 abbrev pub placed_alias : Syntax → Syntax
 placed_alias (Both attrs (Node (Both vis (Both modifiers (Both word (Both ident (Both params (Both place (Both alias semi))))))))) = Both place alias
 placed_alias s = s
@@ -118,9 +118,9 @@ syntax_of_ItemExternCrate = Node
 abbrev pub content_syntax : Option (kinds.Brace × Syntax) → Syntax
 content_syntax = maybe (λ p. group_syntax Brace p.0 p.1)
 
--- what stands behind a module's name: items in braces, behind which a `;` is never printed; or a `;`, which is printed in any case
+-- what follows a module's name: items in braces, after which a `;` is never printed; or a `;`, which is printed in any case
 abbrev pub module_content : Syntax → Syntax → Syntax → Syntax
-module_content inner (Left content) semi_token = Right (Both (aside semi_token) (behind_inner inner content))
+module_content inner (Left content) semi_token = Right (Both (aside semi_token) (after_inner inner content))
 module_content inner s semi_token = Left (or_added semicolon semi_token)
 
 -- inner attributes are printed in the braces, and without braces never

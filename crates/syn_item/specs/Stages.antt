@@ -1,4 +1,4 @@
--- STAGES OF THE PLANS: what is left of a plan behind the attributes, and where a word says what goes on.
+-- STAGES OF THE PLANS: what is left of a plan after the attributes, and where a word says what continues.
 use Rattle.syn_grammar.specs.Words.{w_const}
 use Rattle.syn_grammar.specs.Grammar.{Syntax, rule, word}
 use Rattle.syn_grammar.specs.Rules.{foreign_signature, safe_or_unsafe}
@@ -12,23 +12,23 @@ use Rattle.syn_lower.specs.Attributes.{attributes_syntax}
 use Rattle.syn_item.specs.Impls.{kept_list}
 use Rattle.syn_item.specs.declared.impls.parsing.ImplMarks.{ImplMarks}
 
--- a plan that begins by reading something, behind what it reads
-abbrev pub behind_first : Plan → Syntax → Plan
-behind_first (reads g f) s = f s
-behind_first p s = p
+-- a plan that begins by reading something, after what it reads
+abbrev pub after_first : Plan → Syntax → Plan
+after_first (reads g f) s = f s
+after_first p s = p
 
--- members behind their attributes
-unfoldable pub trait_item_plan_behind : Syntax → Plan
+-- members after their attributes
+unfoldable pub trait_item_plan_after : Syntax → Plan
 unfolding trait_item_plan
-trait_item_plan_behind = behind_first trait_item_plan
+trait_item_plan_after = after_first trait_item_plan
 
-unfoldable pub impl_item_plan_behind : Syntax → Plan
+unfoldable pub impl_item_plan_after : Syntax → Plan
 unfolding impl_item_plan
-impl_item_plan_behind = behind_first impl_item_plan
+impl_item_plan_after = after_first impl_item_plan
 
-unfoldable pub foreign_item_plan_behind : Syntax → Plan
+unfoldable pub foreign_item_plan_after : Syntax → Plan
 unfolding foreign_item_plan
-foreign_item_plan_behind = behind_first foreign_item_plan
+foreign_item_plan_after = after_first foreign_item_plan
 
 -- a constant of a trait, from `const` on
 abbrev pub trait_const_or_kept : Syntax → Plan
@@ -38,12 +38,12 @@ trait_const_or_kept a = reads (plainly (word w_const)) (trait_const_plan a)
 abbrev pub impl_const_or_kept : Syntax → Syntax → Syntax → Plan
 impl_const_or_kept a v d = reads (plainly (word w_const)) (impl_const_plan a v d)
 
--- an impl behind its generics, of what stands before these
-abbrev pub impl_types_behind : ImplMarks → Syntax → Plan
-impl_types_behind m g =
+-- an impl after its generics, of what is before these
+abbrev pub impl_types_after : ImplMarks → Syntax → Plan
+impl_types_after m g =
     impl_types (attributes_syntax m.attrs.items) (maybe default_syntax m.defaultness) (maybe const_syntax m.constness) (maybe unsafe_syntax m.unsafety) (impl_syntax m.impl_token) (kept_list g)
 
--- foreign members behind their visibility
+-- foreign members after their visibility
 abbrev pub foreign_type_or_kept : Syntax → Syntax → Plan
 foreign_type_or_kept = foreign_type_plan
 

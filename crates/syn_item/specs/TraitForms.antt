@@ -1,4 +1,4 @@
--- HOW TRAITS AND THEIR MEMBERS ARE READ: forms of their parts, and what the parts stand for together.
+-- HOW TRAITS AND THEIR MEMBERS ARE READ: forms of their parts, and what the parts represent together.
 use Rattle.syn_grammar.specs.Words.{w_auto, w_trait, semicolon}
 use Rattle.syn_grammar.specs.Rules.{generics, supertraits, trait_items, where_clause, body}
 use Rattle.syn_grammar.specs.Grammar.{Grammar, Syntax, Both, Node, ◌&◌, name, word, rule, unshown, when◌then◌else◌, Nothing, Unshown}
@@ -22,23 +22,23 @@ named_form = plainly (word w_trait) & plainly name & rule generics
 abbrev pub named_syntax : Trait × IdentValue × Syntax → Syntax
 named_syntax p = Both (trait_syntax p.0) (Both (syntax_of_ident p.1) (first p.2))
 
--- what stands behind them
+-- what follows them
 abbrev pub trait_end_form : Grammar
 trait_end_form = bounds_form supertraits & rule where_clause & braced_form trait_items
 
--- a trait of what stands before its word, of that, its name and generics, and of what stands behind them
+-- a trait of what is before its word, of that, its name and generics, and of what follows them
 abbrev pub trait_of : TraitMarks → Syntax → Syntax → Syntax
 trait_of m o rest =
     item_of (attributes_syntax m.attrs.items) (syntax_of_Visibility m.vis) (Both (maybe const_syntax m.constness) (Node (Both (maybe unsafe_syntax m.unsafety) (Both o rest))))
 
--- behind generics
-abbrev pub behind_head : TraitHead → Syntax → Syntax
-behind_head h s =
+-- after generics
+abbrev pub after_head : TraitHead → Syntax → Syntax
+after_head h s =
     trait_of h.marks (maybe auto_syntax h.auto_token) (Both (trait_syntax h.trait_token) (Both (syntax_of_ident h.ident) (Both (first h.generics) s)))
 
--- behind `unsafe`
-abbrev pub behind_marks : TraitMarks → Syntax → Syntax
-behind_marks m s =
+-- after `unsafe`
+abbrev pub after_marks : TraitMarks → Syntax → Syntax
+after_marks m s =
     item_of (attributes_syntax m.attrs.items) (syntax_of_Visibility m.vis) (Both (maybe const_syntax m.constness) (Node (Both (maybe unsafe_syntax m.unsafety) s)))
 
 abbrev pub unmarked_form : Grammar
@@ -53,7 +53,7 @@ abbrev pub trait_function_of : Syntax → Syntax → Syntax
 trait_function_of s (Both a e) = Both a (Node (Both (Unshown Nothing) (Both s e)))
 trait_function_of s e = e
 
--- an alias behind its generics, of `=`, bounds, a where clause and `;`
+-- an alias after its generics, of `=`, bounds, a where clause and `;`
 abbrev pub alias_of : TraitHead → Syntax → Syntax
 alias_of h s =
     item_of (attributes_syntax h.marks.attrs.items) (syntax_of_Visibility h.marks.vis) (Node (Both (trait_syntax h.trait_token) (Both (syntax_of_ident h.ident) (Both (first h.generics) s))))

@@ -1,4 +1,4 @@
--- WHAT SYNTAX TRAITS AND THEIR MEMBERS STAND FOR, one level at a time, every field.
+-- THE SYNTAX OF TRAITS AND THEIR MEMBERS, one level at a time, every field.
 use Rattle.syn_grammar.specs.Words.{semicolon}
 use Rattle.syn_grammar.specs.Tokens.{Brace}
 use Rattle.syn_grammar.specs.Rules.{kept_trait_item, trait_const, trait_function, trait_macro_as_item, trait_type}
@@ -43,7 +43,7 @@ view_TraitItemConst a =
 abbrev pub syntax_of_TraitItemConst : Syntax → Syntax
 syntax_of_TraitItemConst = Node
 
--- what stands behind a signature: a body, behind which a `;` is never printed; or a `;`, which is printed in any case
+-- what follows a signature: a body, after which a `;` is never printed; or a `;`, which is printed in any case
 abbrev pub function_end : Syntax → Syntax → Syntax → Syntax
 function_end inner (Left block) semi_token = Right (Both (aside semi_token) (with_inner inner block))
 function_end inner s semi_token = Left (or_added semicolon semi_token)
@@ -80,12 +80,12 @@ view_ItemTrait a =
 abbrev pub syntax_of_ItemTrait : Syntax → Syntax
 syntax_of_ItemTrait = Node
 
--- what stands behind `auto`, where that may stand: the word of a trait, its name and the rest
-abbrev pub behind_auto : Syntax → Syntax
-behind_auto (Both attrs (Node (Both vis (Both constness (Node (Both unsafety (Both auto rest))))))) = rest
-behind_auto s = s
+-- what follows `auto`, where that is allowed: the word of a trait, its name and the rest
+abbrev pub after_auto : Syntax → Syntax
+after_auto (Both attrs (Node (Both vis (Both constness (Node (Both unsafety (Both auto rest))))))) = rest
+after_auto s = s
 
--- what stands behind its name
-abbrev pub behind_name : Syntax → Syntax
-behind_name (Both attrs (Node (Both vis (Both constness (Node (Both unsafety (Both auto (Both word (Both ident rest))))))))) = rest
-behind_name s = s
+-- what follows its name
+abbrev pub after_name : Syntax → Syntax
+after_name (Both attrs (Node (Both vis (Both constness (Node (Both unsafety (Both auto (Both word (Both ident rest))))))))) = rest
+after_name s = s

@@ -30,11 +30,11 @@ used_syntax p = used (maybe path_sep_syntax p.0) (syntax_of_UseTree p.1)
 unfoldable pub read_braced : Parser
 read_braced ts = wrap Left (parse_form braced_form ts)
 
--- a tree where neither braces nor `::` stand next
+-- a tree where neither braces nor `::` are next
 unfoldable pub read_plain : Parser
 read_plain ts = wrap Right (wrap (Both (Right Nothing)) (parse_rule use_tree ts))
 
--- behind the visibility
+-- after the visibility
 abbrev pub use_form : Grammar
 use_form = plainly (word w_use) & used_form & punctuation semicolon
 

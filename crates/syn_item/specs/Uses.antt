@@ -1,4 +1,4 @@
--- WHAT SYNTAX THE TREES OF USES STAND FOR, one level at a time, every field.
+-- THE SYNTAX OF THE TREES OF USES, one level at a time, every field.
 use Rattle.syn_grammar.specs.Tokens.{Brace}
 use Rattle.syn_grammar.specs.Grammar.{Syntax, Nothing, Both, Left, Right, Node, Group, Such}
 use Rattle.syn_grammar.specs.UseGroups.{rooted}

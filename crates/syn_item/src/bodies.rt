@@ -1,4 +1,4 @@
-//! Parsers of bodies: of what stands in braces, with the inner attributes at its beginning.
+//! Parsers of bodies: of what is in braces, with the inner attributes at its beginning.
 ghost use Rattle.std.specs.Prelude.{◌≡◌, IfOk};
 ghost use Rattle.syn_grammar.specs.Rules as rules;
 ghost use Rattle.syn_lower.specs.Attributes.{all_attributes_syntax, attributes_syntax};
@@ -12,7 +12,7 @@ use syn_parse::read::refusal::Parsed;
 use syn_recognize::deferred::{DeferredBlock, read_deferred_rest};
 use syn_tokens::token::kind;
 
-/// The inner attributes that stand next, behind these outer ones in one list.
+/// The inner attributes that are next, after these outer ones in one list.
 #[tactic(auto, using(crate::proofs::BodyForms::outer_stand_before, crate::proofs::BodyForms::inner_stand_inside))]
 pub(crate) fn with_inner(
     attrs: Vec<Attribute>,
@@ -29,7 +29,7 @@ pub(crate) fn with_inner(
     Ok(attrs)
 }
 
-/// A body: inner attributes and statements in braces. The inner attributes stand behind these outer ones in the list that is answered.
+/// A body: inner attributes and statements in braces. The inner attributes follow these outer ones in the list that is returned.
 #[tactic(auto, using(crate::proofs::BodyForms::body_read), unfolding(syn_grammar::specs::Take::is_end))]
 pub(crate) fn body(
     attrs: Vec<Attribute>,

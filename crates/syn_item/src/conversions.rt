@@ -1,5 +1,6 @@
-//! What a kind of items, of trees of a use or of parameters is one of: the struct becomes its variant. Nothing is copied, and no memory
-//! is taken.
+//! Written by tools/kinds.py; edits are lost.
+//!
+//! Conversions of items, use trees and parameters into the enums that hold them. Nothing is copied or allocated.
 ghost use Rattle.std.specs.Prelude.{◌≡◌};
 
 mod members;
@@ -11,7 +12,7 @@ use crate::simple::{
     ItemConst, ItemExternCrate, ItemMacro, ItemMod, ItemStatic, ItemTraitAlias, ItemType, ItemUse,
 };
 use crate::use_tree::{UseGlob, UseGroup, UseName, UsePath, UseRename, UseTree};
-use syn_pat::PatType;
+use syn_pat::pat::PatType;
 
 impl From<ItemConst> for Item {
     ghost use Rattle.syn_item.specs.declared.item.Item.TheVariants as items;

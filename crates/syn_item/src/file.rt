@@ -26,7 +26,7 @@ pub struct File {
     pub items: Vec<Item>,
 }
 
-/// What stands between a file's first line and its attributes. It is never read.
+/// What is between a file's first line and its attributes. It is never read.
 #[derive(Clone, Copy, Debug, Default)]
 pub struct Frontmatter {}
 

@@ -9,7 +9,7 @@ use syn_recognize::deferred::DeferredBlock;
 use syn_tree::item::FnModifiers;
 use syn_tree::restriction::Visibility;
 
-/// A function, such as `fn f() -> u8 { 1 }`. Its body is kept as its tokens.
+/// A function, such as `fn f() -> u8 { 1 }`. Its body is kept verbatim.
 #[derive(Drop)]
 pub struct ItemFn {
     pub attrs: Vec<Attribute>,

@@ -7,7 +7,7 @@ ghost use Rattle.syn_tokens.specs.Kinds.{eq_syntax, semi_syntax};
 ghost use Rattle.syn_lower.specs.Generics.{clause_of};
 ghost use Rattle.syn_lower.specs.Parts.{first};
 ghost use Rattle.syn_lower.specs.Types.{syntax_of_Type};
-ghost use Rattle.syn_item.specs.Impls.{behind_generics, behind_impl, kept_list};
+ghost use Rattle.syn_item.specs.Impls.{after_generics, after_impl, kept_list};
 
 mod members;
 mod parsing;
@@ -78,7 +78,7 @@ pub struct ImplItemConst {
     pub semi_token: Semi,
 }
 
-/// A function of an impl, such as `pub fn f(&self) {}`. Its body is kept as its tokens.
+/// A function of an impl, such as `pub fn f(&self) {}`. Its body is kept verbatim.
 #[derive(Drop)]
 pub struct ImplItemFn {
     pub attrs: Vec<Attribute>,
@@ -166,10 +166,10 @@ impl Print for ImplItemType {
     }
 }
 
-/// What stands behind an impl's generics: `!`, a trait's path and `for`, the self type, the where clause and the members.
+/// What follows an impl's generics: `!`, a trait's path and `for`, the self type, the where clause and the members.
 #[tactic(auto, using(syn_tokens::proofs::Prints::prints, crate::proofs::ImplForms::print_implemented))]
-fn print_behind_generics(item: &ItemImpl, out: &mut StreamBuilder) -> Result<(), AllocError>
-    ensures prints { OnOk result (out.new ≡ added out.old (print (behind_generics item.now))) }
+fn print_after_generics(item: &ItemImpl, out: &mut StreamBuilder) -> Result<(), AllocError>
+    ensures prints { OnOk result (out.new ≡ added out.old (print (after_generics item.now))) }
     ensures begins { out.new.before ≡ out.old.before }
 {
     item.modifiers.polarity.print_in(out)?;
@@ -190,13 +190,13 @@ fn finished(out: StreamBuilder) -> Result<TokenStream, AllocError>
     }
 }
 
-/// The tokens of what stands behind an impl's generics.
+/// The tokens of what follows an impl's generics.
 #[tactic(auto, unfolding(syn_tokens::specs::Building::added))]
-fn tokens_behind_generics(item: &ItemImpl, alloc: Global) -> Result<TokenStream, AllocError>
-    ensures { IfOk result (λ stream. stream ≡ print (behind_generics item.now)) }
+fn tokens_after_generics(item: &ItemImpl, alloc: Global) -> Result<TokenStream, AllocError>
+    ensures { IfOk result (λ stream. stream ≡ print (after_generics item.now)) }
 {
     let mut out = StreamBuilder::new(alloc);
-    print_behind_generics(item, &mut out)?;
+    print_after_generics(item, &mut out)?;
     let tokens = finished(out)?;
     Ok(tokens)
 }
@@ -212,11 +212,11 @@ fn tokens_of_type(ty: &Type, alloc: Global) -> Result<TokenStream, AllocError>
     Ok(tokens)
 }
 
-/// Whether what stands behind an impl's generics, of which these are the tokens, would be read as generics where there are none; or
-/// its self type behind `for` would.
+/// Whether what follows an impl's generics, of which these are the tokens, would be read as generics where there are none; or
+/// its self type after `for` would.
 fn is_led(item: &ItemImpl, behind: &TokenStream, alloc: Global) -> Result<bool, AllocError>
-    requires { behind.now ≡ print (behind_generics item.now) }
-    ensures { IfOk result (λ answer. answer ≡ led (renew (behind_generics item.now))) }
+    requires { behind.now ≡ print (after_generics item.now) }
+    ensures { IfOk result (λ answer. answer ≡ led (renew (after_generics item.now))) }
 {
     let trait_ = &item.trait_;
     if at_generics(&ParseBuffer::new(behind)) {
@@ -231,17 +231,17 @@ fn is_led(item: &ItemImpl, behind: &TokenStream, alloc: Global) -> Result<bool, 
     }
 }
 
-/// Generics and what stands behind them. Empty generics are printed as `< >` where it would be read as generics else.
+/// Generics and what follows them. Empty generics are printed as `< >` where it would be read as generics else.
 #[tactic(auto, using(syn_tokens::proofs::Prints::prints, crate::proofs::ImplForms::some_printed, crate::proofs::ImplForms::none_printed))]
-fn print_behind_impl(item: &ItemImpl, out: &mut StreamBuilder) -> Result<(), AllocError>
-    ensures prints { OnOk result (out.new ≡ added out.old (print (behind_impl item.now))) }
+fn print_after_impl(item: &ItemImpl, out: &mut StreamBuilder) -> Result<(), AllocError>
+    ensures prints { OnOk result (out.new ≡ added out.old (print (after_impl item.now))) }
     ensures begins { out.new.before ≡ out.old.before }
 {
     if !item.generics.params.is_empty() {
         item.generics.print_params(out)?;
-        return print_behind_generics(item, out);
+        return print_after_generics(item, out);
     }
-    let behind = tokens_behind_generics(item, out.alloc())?;
+    let behind = tokens_after_generics(item, out.alloc())?;
     if is_led(item, &behind, out.alloc())? {
         Lt::new([Span::call_site()]).print_in(out)?;
         Gt::new([Span::call_site()]).print_in(out)?;
@@ -249,7 +249,7 @@ fn print_behind_impl(item: &ItemImpl, out: &mut StreamBuilder) -> Result<(), All
     out.append(&behind)
 }
 
-/// `default`, `const` and `unsafe` stand before `impl`, and the where clause before the braces.
+/// `default`, `const` and `unsafe` are before `impl`, and the where clause before the braces.
 impl Print for ItemImpl {
     #[tactic(auto, using(syn_tokens::proofs::Prints::prints))]
     fn print_in(&self, out: &mut StreamBuilder) -> Result<(), AllocError> {
@@ -258,7 +258,7 @@ impl Print for ItemImpl {
         self.modifiers.constness.print_in(out)?;
         self.unsafety.print_in(out)?;
         self.impl_token.print_in(out)?;
-        print_behind_impl(self, out)
+        print_after_impl(self, out)
     }
 }
 
@@ -270,7 +270,7 @@ fn has_same_list(generics: &Generics, other: &Generics) -> bool
     generics.has_same_params(other)
 }
 
-/// What stands behind the generics is compared by what it is together.
+/// What follows the generics is compared by what it is together.
 impl Compared for ItemImpl {
     #[tactic(auto, using(crate::proofs::SameImpls::same_impl))]
     fn is_same(&self, other: &ItemImpl) -> bool {

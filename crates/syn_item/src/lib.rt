@@ -1,5 +1,5 @@
-//! The syntax trees of items and files: functions, traits, impls and all else that stands beside structs, enums and unions. They hold
-//! no expression and no item: bodies, values and the content of modules are kept as their tokens.
+//! The syntax trees of items and files: functions, traits, impls and all else that is beside structs, enums and unions. They hold
+//! no expression and no item: bodies, values and the content of modules are kept verbatim.
 #![tactic(auto)]
 
 mod bodies;

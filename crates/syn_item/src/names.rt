@@ -1,4 +1,4 @@
-//! Names where some keywords may stand too.
+//! Names where some keywords are allowed too.
 ghost use Rattle.std.specs.Prelude.{◌≡◌, ◌∷◌, []};
 ghost use Rattle.syn_grammar.specs.Words.{Text, w_crate, w_self, w_super, w_try, w_underscore};
 ghost use Rattle.syn_grammar.specs.Tokens.{one_of_texts};
@@ -9,7 +9,7 @@ use syn_parse::buffer::ParseBuffer;
 use syn_parse::read::refusal::Parsed;
 use syn_tokens::ident::Ident;
 
-/// Keywords that may stand where a name is read.
+/// Keywords that are allowed as names.
 pub(crate) trait Keywords {
     ghost use Rattle.std.specs.Prelude.{◌≡◌, List};
     ghost use Rattle.syn_grammar.specs.Words.{Text};

@@ -106,7 +106,7 @@ pub fn print_body(
     block.brace_token.close(out)
 }
 
-/// Members in braces, behind the inner ones of these attributes.
+/// Members in braces, after the inner ones of these attributes.
 #[tactic(auto, using(syn_tokens::proofs::Prints::groups))]
 pub fn print_braced<T: Print>(
     brace_token: &Brace,
@@ -123,7 +123,7 @@ pub fn print_braced<T: Print>(
     brace_token.close(out)
 }
 
-/// Members, one behind the other.
+/// Members, one after the other.
 #[tactic(auto, using(crate::proofs::Members::print_members))]
 pub fn print_members<T: Print>(members: &Vec<T>, out: &mut StreamBuilder) -> Result<(), AllocError>
     ensures prints { OnOk result (out.new ≡ added out.old (print (members_of T.syntax members.now.items))) }

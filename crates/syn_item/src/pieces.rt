@@ -1,4 +1,4 @@
-//! Parsers of what many items have: members in braces, bounds, values, macros as members; and of what is kept as tokens.
+//! Parsers of what many items have: members in braces, bounds, values, macros as members; and of what is kept verbatim.
 ghost use Rattle.std.specs.Prelude.{◌≡◌, ◌<◌, IfOk, codes};
 ghost use Rattle.syn_grammar.specs.Rules as rules;
 ghost use Rattle.syn_grammar.specs.Rules.{Rule as GrammarRule};
@@ -58,7 +58,7 @@ pub(crate) fn members<T: Read + Drop>(input: &mut ParseBuffer<'_>) -> Parsed<Vec
     Ok(members)
 }
 
-/// Inner attributes and members, in braces. The inner attributes stand behind these outer ones in the list that is answered.
+/// Inner attributes and members, in braces. The inner attributes follow these outer ones in the list that is returned.
 #[tactic(auto, unfolding(syn_grammar::specs::Take::is_end))]
 pub(crate) fn braced<T: Read + Drop>(
     attrs: Vec<Attribute>,
@@ -77,8 +77,8 @@ pub(crate) fn braced<T: Read + Drop>(
     Ok((attrs, brace_token, members))
 }
 
-/// `=` and what stands behind it, where `=` stands next.
-pub(crate) fn behind_equals<T: Read>(input: &mut ParseBuffer<'_>) -> Parsed<Option<(Eq, T)>>
+/// `=` and what follows it, if `=` is next.
+pub(crate) fn after_equals<T: Read>(input: &mut ParseBuffer<'_>) -> Parsed<Option<(Eq, T)>>
     ensures reads { Computes IsSyntax (λ o. maybe (pair_of eq_syntax T.syntax) o) (parse (optional (by table.at_equals) (punctuation equals followed_by T.form)) input.old) result input.new }
     ensures kept { Kept input.old result input.new }
 {
@@ -171,7 +171,7 @@ pub(crate) fn colon_and_supertraits(
     }
 }
 
-/// A word that begins a signature, or goes it on behind `const`: `async`, `unsafe`, `extern` or `fn`.
+/// A keyword that starts a signature, or continues it after `const`: `async`, `unsafe`, `extern` or `fn`.
 struct FunctionWord;
 
 impl Peek for FunctionWord {
@@ -192,7 +192,7 @@ impl Peek for FunctionWord {
     }
 }
 
-/// Whether a signature stands next: a word that begins one, or `const` with such a word behind it.
+/// Whether a signature is next: a word that begins one, or `const` followed by such a word.
 pub(crate) fn at_function(input: &ParseBuffer<'_>) -> bool
     ensures { result ≡ pick (sees (at_word w_const) input.now) (sees plan.at_function (past input.now)) (sees plan.at_function input.now) }
 {
@@ -211,7 +211,7 @@ pub(crate) fn type_head(input: &mut ParseBuffer<'_>) -> Parsed<(token::Type, Ide
     Ok((input.read()?, input.read()?, Generics::read_params(input)?))
 }
 
-/// A macro as a member: a path in module style, `!` that isn't `!=`, and a group of any tokens, behind which `;` stands unless it is in
+/// A macro as a member: a path in module style, `!` that isn't `!=`, and a group of any tokens, followed by `;` unless it is in
 /// braces.
 #[tactic(auto, using(syn_grammar::proofs::Each::member_macro_is))]
 pub(crate) fn member_macro(input: &mut ParseBuffer<'_>) -> Parsed<(Macro, Option<Semi>)>
@@ -233,7 +233,7 @@ pub(crate) fn member_macro(input: &mut ParseBuffer<'_>) -> Parsed<(Macro, Option
     Ok((mac, semi_token))
 }
 
-/// A copy of the tokens from `start` on that the rule reads, spacing included. The buffer stands behind them then.
+/// A copy of the tokens from `start` on that the rule reads, spacing included. The buffer follows them then.
 pub(crate) fn kept_tokens<'a>(
     rule: Rule,
     start: &ParseBuffer<'a>,

@@ -1,4 +1,4 @@
-//! Signatures of functions, and what stands in them.
+//! Signatures of functions, and what is in them.
 ghost use Rattle.std.specs.Prelude.{◌≡◌, MatchOption, None, OnOk, Some};
 ghost use Rattle.syn_grammar.specs.Grammar.{Both, print};
 ghost use Rattle.syn_grammar.specs.Promises.{itself};
@@ -89,7 +89,7 @@ pub struct Receiver {
     pub kind: ReceiverKind,
 }
 
-/// What stands around the `self` of a receiver.
+/// What is around the `self` of a receiver.
 #[derive(Drop)]
 pub enum ReceiverKind {
     /// `self`
@@ -147,8 +147,8 @@ fn print_last_comma(
     Ok(())
 }
 
-/// Parameters before a variadic one, with a comma behind the last of them.
-#[tactic(auto, using(syn_tokens::proofs::Prints::prints, crate::proofs::Parameters::print_comma_behind))]
+/// Parameters before a variadic one, with a comma after the last of them.
+#[tactic(auto, using(syn_tokens::proofs::Prints::prints, crate::proofs::Parameters::print_comma_after))]
 fn print_before_variadic(
     inputs: &Punctuated<FnArg, Comma>,
     out: &mut StreamBuilder,
@@ -195,7 +195,7 @@ fn print_inputs(
     paren_token.close(out)
 }
 
-/// What stands behind the parameters: a return type and a where clause.
+/// What follows the parameters: a return type and a where clause.
 #[tactic(auto, using(syn_tokens::proofs::Prints::prints))]
 fn print_end(
     output: &ReturnType,
@@ -209,7 +209,7 @@ fn print_end(
     generics.print_where(out)
 }
 
-/// Between parameters and a variadic one a comma is printed though there is none. The where clause stands behind the return type.
+/// Between parameters and a variadic one a comma is printed though there is none. The where clause follows the return type.
 impl Print for Signature {
     fn print_in(&self, out: &mut StreamBuilder) -> Result<(), AllocError> {
         self.constness.print_in(out)?;
@@ -224,7 +224,7 @@ impl Print for Signature {
     }
 }
 
-/// A receiver behind its attributes.
+/// A receiver after its attributes.
 #[tactic(auto, using(syn_tokens::proofs::Prints::prints))]
 fn print_received(
     mutability: &Option<Mut>,
@@ -255,7 +255,7 @@ fn print_received(
     }
 }
 
-/// Behind `&` the receiver's own `mut` is not printed.
+/// After `&` the receiver's own `mut` is not printed.
 impl Print for Receiver {
     #[tactic(auto, using(syn_tokens::proofs::Prints::prints))]
     fn print_in(&self, out: &mut StreamBuilder) -> Result<(), AllocError> {

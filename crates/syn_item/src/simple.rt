@@ -19,7 +19,7 @@ mod values;
 use crate::parts::{print_bounds_end, print_typed_value};
 use crate::use_tree::UseTree;
 pub(crate) use aliases::{
-    aliased_bounds, trait_alias, trait_alias_rest, type_alias, type_behind_head, type_rest,
+    aliased_bounds, trait_alias, trait_alias_rest, type_after_head, type_alias, type_rest,
 };
 pub(crate) use macro_items::{ended_group, macro_as_item_rest, macro_rest};
 pub(crate) use modules::{extern_crate, extern_crate_rest, module, module_rest};
@@ -100,12 +100,12 @@ pub struct ItemType {
     pub where_clause_placement: WhereClausePlacement,
 }
 
-/// Where the where clause of a type alias stands.
+/// Where the where clause of a type alias is.
 #[derive(Clone, Copy, Debug)]
 pub enum WhereClausePlacement {
     /// Before `=`.
     Early,
-    /// Behind the type.
+    /// After the type.
     Late,
 }
 
@@ -132,7 +132,7 @@ pub struct ItemExternCrate {
     pub semi_token: Semi,
 }
 
-/// A module, such as `mod a;` or `mod a { struct B; }`. Its items are kept as their tokens.
+/// A module, such as `mod a;` or `mod a { struct B; }`. Its items are kept verbatim.
 #[derive(Drop)]
 pub struct ItemMod {
     pub attrs: Vec<Attribute>,
@@ -166,7 +166,7 @@ pub struct ItemTraitAlias {
     pub semi_token: Semi,
 }
 
-/// `=` and a type, with the where clause before it or behind it.
+/// `=` and a type, with the where clause before it or after it.
 #[tactic(auto, using(syn_tokens::proofs::Prints::prints))]
 fn print_aliased(
     placement: WhereClausePlacement,
@@ -248,7 +248,7 @@ impl Print for ItemTraitAlias {
     }
 }
 
-/// Modifiers are not printed. The where clause stands where its placement says.
+/// Modifiers are not printed. The where clause is printed where its placement says.
 impl Print for ItemType {
     #[tactic(auto, using(crate::proofs::LongPrints::in_order, crate::proofs::Unprinted::print_place_aside))]
     fn print_in(&self, out: &mut StreamBuilder) -> Result<(), AllocError> {
@@ -284,7 +284,7 @@ impl Compared for ItemType {
 }
 
 impl ItemType {
-    /// Whether both stand for the same type, with the same where clause at the same place.
+    /// Whether both represent the same type, with the same where clause at the same place.
     #[tactic(auto, using(crate::proofs::SameParts::same_placed))]
     fn has_same_alias(&self, other: &ItemType) -> bool
         ensures { result ≡ same_syntax (placed_alias self.now) (placed_alias other.now) }
@@ -313,7 +313,7 @@ fn print_module_attributes(
     }
 }
 
-/// Items in braces, behind inner attributes; or a `;`, which is printed though there is none.
+/// Items in braces, after inner attributes; or a `;`, which is printed though there is none.
 #[tactic(auto, using(syn_tokens::proofs::Prints::groups))]
 fn print_content(
     attrs: &Vec<Attribute>,
@@ -338,7 +338,7 @@ fn print_content(
     }
 }
 
-/// A `;` is printed where there are no braces, though there is none, and never behind braces.
+/// A `;` is printed where there are no braces, though there is none, and never after braces.
 impl Print for ItemMod {
     #[tactic(auto, using(syn_tokens::proofs::Prints::prints))]
     fn print_in(&self, out: &mut StreamBuilder) -> Result<(), AllocError> {
@@ -407,7 +407,7 @@ impl Compared for ItemMod {
     }
 }
 
-/// A name stands between `!` and the group.
+/// A name is between `!` and the group.
 impl Print for ItemMacro {
     #[tactic(auto, using(syn_tokens::proofs::Prints::prints, crate::proofs::Macros::print_ended_group))]
     fn print_in(&self, out: &mut StreamBuilder) -> Result<(), AllocError> {

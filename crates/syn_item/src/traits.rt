@@ -8,7 +8,7 @@ ghost use Rattle.syn_tokens.specs.Leaves.{maybe};
 ghost use Rattle.syn_lower.specs.Attributes.{attributes_syntax};
 ghost use Rattle.syn_lower.specs.Bodies.{attributes_before_body, attributes_in_body};
 ghost use Rattle.syn_item.specs.Simple.{attributes_by_content};
-ghost use Rattle.syn_item.specs.Traits.{behind_auto, behind_name, function_end};
+ghost use Rattle.syn_item.specs.Traits.{after_auto, after_name, function_end};
 
 mod parsing;
 
@@ -78,7 +78,7 @@ pub struct TraitItemConst {
     pub semi_token: Semi,
 }
 
-/// A function of a trait, such as `fn f(&self);` or `fn f(&self) {}`. Its body is kept as its tokens.
+/// A function of a trait, such as `fn f(&self);` or `fn f(&self) {}`. Its body is kept verbatim.
 #[derive(Drop)]
 pub struct TraitItemFn {
     pub attrs: Vec<Attribute>,
@@ -110,10 +110,10 @@ pub struct TraitItemMacro {
     pub semi_token: Option<Semi>,
 }
 
-/// What stands behind a trait's name. Without bounds the colon isn't printed.
+/// What follows a trait's name. Without bounds the colon isn't printed.
 #[tactic(auto, using(syn_tokens::proofs::Prints::prints, syn_lower::proofs::GenericPrints::print_bounds))]
-fn print_behind_name(item: &ItemTrait, out: &mut StreamBuilder) -> Result<(), AllocError>
-    ensures prints { OnOk result (out.new ≡ added out.old (print (behind_name item.now))) }
+fn print_after_name(item: &ItemTrait, out: &mut StreamBuilder) -> Result<(), AllocError>
+    ensures prints { OnOk result (out.new ≡ added out.old (print (after_name item.now))) }
     ensures begins { out.new.before ≡ out.old.before }
 {
     item.generics.print_params(out)?;
@@ -122,15 +122,15 @@ fn print_behind_name(item: &ItemTrait, out: &mut StreamBuilder) -> Result<(), Al
     print_braced(&item.brace_token, &item.attrs, &item.items, out)
 }
 
-/// The word of a trait, its name and what stands behind it.
+/// The word of a trait, its name and what follows it.
 #[tactic(auto, using(syn_tokens::proofs::Prints::prints))]
 fn print_named(item: &ItemTrait, out: &mut StreamBuilder) -> Result<(), AllocError>
-    ensures prints { OnOk result (out.new ≡ added out.old (print (behind_auto item.now))) }
+    ensures prints { OnOk result (out.new ≡ added out.old (print (after_auto item.now))) }
     ensures begins { out.new.before ≡ out.old.before }
 {
     item.trait_token.print_in(out)?;
     item.ident.print_in(out)?;
-    print_behind_name(item, out)
+    print_after_name(item, out)
 }
 
 /// `unsafe` is printed before `auto`.
@@ -146,7 +146,7 @@ impl Print for ItemTrait {
     }
 }
 
-/// The where clause stands before the braces.
+/// The where clause is before the braces.
 impl Compared for ItemTrait {
     #[tactic(auto, using(crate::proofs::SameTraits::same_trait))]
     fn is_same(&self, other: &ItemTrait) -> bool {
@@ -204,7 +204,7 @@ fn print_function_end(
     }
 }
 
-/// A `;` is printed where there is no body, though there is none, and never behind a body. Modifiers are not printed.
+/// A `;` is printed where there is no body, though there is none, and never after a body. Modifiers are not printed.
 impl Print for TraitItemFn {
     #[tactic(auto, using(syn_tokens::proofs::Prints::prints))]
     fn print_in(&self, out: &mut StreamBuilder) -> Result<(), AllocError> {

@@ -23,7 +23,7 @@ pub enum UseTree {
     Group(UseGroup),
 }
 
-/// A word and the tree behind it, such as `std::vec`.
+/// A word and the tree after it, such as `std::vec`.
 #[cycle(use_trees)]
 #[derive(Drop)]
 pub struct UsePath {

@@ -54,7 +54,7 @@ module _ (test : Syntax → Bool) where
   pub listed_all : (l : List Attribute) → every test (all l) ≡ true → listed test (all l) ≡ in_front l none_listed
   listed_all l e = ap (λ b. shown_before test (pick b Nothing (all l)) (all l)) e ∙ shown_all Nothing l e
 
--- where all are printed, they stand so too
+-- if all are printed, they are in that order too
 all_listed_is : (l : List Attribute) → all_listed (all l) ≡ in_front l none_listed
 all_listed_is [] = refl
 all_listed_is (a ∷ l) = ap (before_others a) (all_listed_is l)

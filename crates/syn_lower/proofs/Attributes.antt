@@ -7,7 +7,7 @@ use Rattle.syn_grammar.specs.Same.{same_stream, same_syntax}
 use Rattle.syn_grammar.specs.Run.{marks_of}
 use Rattle.syn_tokens.specs.InOrder.{in_order}
 use Rattle.syn_tokens.specs.Kinds.{Eq, eq_syntax}
-use Rattle.syn_lower.specs.Attributes.{no_value, behind_equals, filled, syntax_of_MacroDelimiter, syntax_of_AttrStyle, behind_pound, syntax_of_Attribute, is_outer, every_outer, outer_before, outer_listed, attributes_syntax, all_attributes_syntax, outer_part, outer_row, all_row}
+use Rattle.syn_lower.specs.Attributes.{no_value, after_equals, filled, syntax_of_MacroDelimiter, syntax_of_AttrStyle, behind_pound, syntax_of_Attribute, is_outer, every_outer, outer_before, outer_listed, attributes_syntax, all_attributes_syntax, outer_part, outer_row, all_row}
 use Rattle.syn_lower.specs.declared.attr.MacroDelimiter.TheVariants as MacroDelimiter-m
 use Rattle.syn_lower.specs.declared.attr.AttrStyle.TheVariants as AttrStyle-m
 use Rattle.syn_lower.specs.declared.attr.Attribute.{Attribute}
@@ -27,7 +27,7 @@ same_filled (MacroDelimiter-m.Bracket d) (MacroDelimiter-m.Paren e) i j = refl
 same_filled (MacroDelimiter-m.Bracket d) (MacroDelimiter-m.Brace e) i j = refl
 same_filled (MacroDelimiter-m.Bracket d) (MacroDelimiter-m.Bracket e) i j = refl
 
--- a group, `=` and nothing are told apart
+-- a group, `=` and nothing are distinguished
 pub group_or_nothing : (d : MacroDelimiter-m.the_data) (i : Stream) → same_syntax (filled i (syntax_of_MacroDelimiter d)) no_value ≡ false
 group_or_nothing (MacroDelimiter-m.Paren d) i = refl
 group_or_nothing (MacroDelimiter-m.Brace d) i = refl
@@ -38,12 +38,12 @@ nothing_or_group (MacroDelimiter-m.Paren d) i = refl
 nothing_or_group (MacroDelimiter-m.Brace d) i = refl
 nothing_or_group (MacroDelimiter-m.Bracket d) i = refl
 
-pub group_or_equals : (d : MacroDelimiter-m.the_data) (i j : Stream) (e : Eq) → same_syntax (filled i (syntax_of_MacroDelimiter d)) (behind_equals (eq_syntax e) j) ≡ false
+pub group_or_equals : (d : MacroDelimiter-m.the_data) (i j : Stream) (e : Eq) → same_syntax (filled i (syntax_of_MacroDelimiter d)) (after_equals (eq_syntax e) j) ≡ false
 group_or_equals (MacroDelimiter-m.Paren d) i j e = refl
 group_or_equals (MacroDelimiter-m.Brace d) i j e = refl
 group_or_equals (MacroDelimiter-m.Bracket d) i j e = refl
 
-pub equals_or_group : (d : MacroDelimiter-m.the_data) (i j : Stream) (e : Eq) → same_syntax (behind_equals (eq_syntax e) j) (filled i (syntax_of_MacroDelimiter d)) ≡ false
+pub equals_or_group : (d : MacroDelimiter-m.the_data) (i j : Stream) (e : Eq) → same_syntax (after_equals (eq_syntax e) j) (filled i (syntax_of_MacroDelimiter d)) ≡ false
 equals_or_group (MacroDelimiter-m.Paren d) i j e = refl
 equals_or_group (MacroDelimiter-m.Brace d) i j e = refl
 equals_or_group (MacroDelimiter-m.Bracket d) i j e = refl
@@ -53,21 +53,21 @@ spell_before [] i = refl
 spell_before (x ∷ []) i = refl
 spell_before (x ∷ y ∷ l) i = ap (punct x.0 true x.1) (spell_before (y ∷ l) i)
 
-pub print_behind_equals : (e : Eq) (i : Stream) → print (behind_equals (eq_syntax e) i) ≡ print (eq_syntax e) ⧺ i
-print_behind_equals e i = spell_before (marks_of (eq_syntax e)) i
+pub print_after_equals : (e : Eq) (i : Stream) → print (after_equals (eq_syntax e) i) ≡ print (eq_syntax e) ⧺ i
+print_after_equals e i = spell_before (marks_of (eq_syntax e)) i
 
 -- STYLES
 
-pub same_behind_pound : (s t : AttrStyle-m.the_data) (o c p d : Span) (x y : Syntax) →
+pub same_after_pound : (s t : AttrStyle-m.the_data) (o c p d : Span) (x y : Syntax) →
     same_syntax (behind_pound (syntax_of_AttrStyle s) (Group Bracket o c x)) (behind_pound (syntax_of_AttrStyle t) (Group Bracket p d y)) ≡ and (same_syntax (syntax_of_AttrStyle s) (syntax_of_AttrStyle t)) (same_syntax x y)
-same_behind_pound AttrStyle-m.Outer AttrStyle-m.Outer o c p d x y = refl
-same_behind_pound AttrStyle-m.Outer (AttrStyle-m.Inner m) o c p d x y = refl
-same_behind_pound (AttrStyle-m.Inner n) AttrStyle-m.Outer o c p d x y = refl
-same_behind_pound (AttrStyle-m.Inner n) (AttrStyle-m.Inner m) o c p d x y = refl
+same_after_pound AttrStyle-m.Outer AttrStyle-m.Outer o c p d x y = refl
+same_after_pound AttrStyle-m.Outer (AttrStyle-m.Inner m) o c p d x y = refl
+same_after_pound (AttrStyle-m.Inner n) AttrStyle-m.Outer o c p d x y = refl
+same_after_pound (AttrStyle-m.Inner n) (AttrStyle-m.Inner m) o c p d x y = refl
 
-pub print_behind_pound : (s : AttrStyle-m.the_data) (g : Syntax) → print (behind_pound (syntax_of_AttrStyle s) g) ≡ print (syntax_of_AttrStyle s) ⧺ print g
-print_behind_pound AttrStyle-m.Outer g = refl
-print_behind_pound (AttrStyle-m.Inner n) g = refl
+pub print_after_pound : (s : AttrStyle-m.the_data) (g : Syntax) → print (behind_pound (syntax_of_AttrStyle s) g) ≡ print (syntax_of_AttrStyle s) ⧺ print g
+print_after_pound AttrStyle-m.Outer g = refl
+print_after_pound (AttrStyle-m.Inner n) g = refl
 
 -- ATTRIBUTES IN ORDER
 
@@ -147,10 +147,10 @@ shown_is u (a ∷ l) e = go (shown_is u l) (is_outer (plain_syntax (syntax_of_At
     go is true h = ap (Both (plain_syntax (syntax_of_Attribute a))) (is h)
     go is false h = absurd (true≢false (sym h))
 
-told_list : (l : List Attribute) → parts_of_list (outer_listed (plain_syntax (all l))) ≡ plain_syntax (all l)
+known_list : (l : List Attribute) → parts_of_list (outer_listed (plain_syntax (all l))) ≡ plain_syntax (all l)
 unfolding outer_listed
-told_list [] = refl
-told_list (a ∷ l) = go (every_outer chain) refl
+known_list [] = refl
+known_list (a ∷ l) = go (every_outer chain) refl
   where
     chain : Syntax
     chain = plain_syntax (all (a ∷ l))
@@ -161,7 +161,7 @@ told_list (a ∷ l) = go (every_outer chain) refl
 
 -- attributes are compared one by one
 pub same_attributes : (l m : List Attribute) → same_syntax (attributes_syntax l) (attributes_syntax m) ≡ same_syntax (in_order syntax_of_Attribute l) (in_order syntax_of_Attribute m)
-same_attributes l m = told outer_listed parts_of_list _ _ (all l) (all m) (plain_listed l) (plain_listed m) (ap parts_of_list (plain_listed l) ∙ told_list l) (ap parts_of_list (plain_listed m) ∙ told_list m)
+same_attributes l m = told outer_listed parts_of_list _ _ (all l) (all m) (plain_listed l) (plain_listed m) (ap parts_of_list (plain_listed l) ∙ known_list l) (ap parts_of_list (plain_listed m) ∙ known_list m)
 
 print_before : (u : Syntax) (l : List Attribute) → print (outer_before u (all l)) ≡ outer_row l
 print_before u [] = refl

@@ -60,7 +60,7 @@ inner_step l i d h = at_drop_more inner_row l i d h
 pub inner_done : (l : List Attribute) (i : ℕ) → length l ≤ i → inner_row (drop i l) ≡ end
 inner_done l i h = ap inner_row (drop_all i l h)
 
--- COMPARISONS: spans don't tell of which kind an attribute is
+-- COMPARISONS: spans don't decide of which kind an attribute is
 
 outer_plain : (a : Attribute) → is_outer (plain_syntax (syntax_of_Attribute a)) ≡ is_outer (syntax_of_Attribute a)
 outer_plain a = go a.style
@@ -180,7 +180,7 @@ none_shown u (a ∷ l) e = go (none_shown u l) (is_outer (plain_syntax (syntax_o
     go is true h = absurd (true≢false (sym h))
     go is false h = is h
 
--- the outer ones and then the inner ones, where they stand so
+-- the outer ones and then the inner ones, if they are in that order
 places_shown : (u : Syntax) (l : List Attribute) → outer_first (plain_all l) ≡ true →
     followed (shown_of (shown_before is_outer u (plain_all l))) (shown_of (shown_before is_inner Nothing (plain_all l))) ≡ plain_all l
 places_shown u [] e = refl
@@ -204,10 +204,10 @@ places_shown u (a ∷ l) e = go (places_shown u l) (is_outer (plain_syntax (synt
         rest : every is_inner (plain_all (a ∷ l)) ≡ true → every is_inner (plain_all l) ≡ true
         rest h = sym (ap (λ b. and (no b) (every is_inner (plain_all l))) k) ∙ h
 
-told_places : (l : List Attribute) → of_places (in_places (plain_all l)) ≡ plain_all l
+known_places : (l : List Attribute) → of_places (in_places (plain_all l)) ≡ plain_all l
 unfolding listed_before listed_inside
-told_places [] = refl
-told_places (a ∷ l) = go (outer_first chain) refl
+known_places [] = refl
+known_places (a ∷ l) = go (outer_first chain) refl
   where
     chain : Syntax
     chain = plain_all (a ∷ l)
@@ -219,7 +219,7 @@ told_places (a ∷ l) = go (outer_first chain) refl
 
 same_places : (l m : List Attribute) →
     and (same_syntax (attributes_before_body l) (attributes_before_body m)) (same_syntax (attributes_in_body l) (attributes_in_body m)) ≡ same_syntax (in_order syntax_of_Attribute l) (in_order syntax_of_Attribute m)
-same_places l m = told in_places of_places (in_places (all l)) (in_places (all m)) (all l) (all m) (plain_places l) (plain_places m) (ap of_places (plain_places l) ∙ told_places l) (ap of_places (plain_places m) ∙ told_places m)
+same_places l m = told in_places of_places (in_places (all l)) (in_places (all m)) (all l) (all m) (plain_places l) (plain_places m) (ap of_places (plain_places l) ∙ known_places l) (ap of_places (plain_places m) ∙ known_places m)
 
 -- so many parts between those before a body and the body
 across : (b x i y : Bool) → and b (and x (and i y)) ≡ and (and b i) (and x y)
@@ -237,21 +237,21 @@ module _ (l m : List Attribute) where
   abbrev attributes : Bool
   attributes = same_syntax (in_order syntax_of_Attribute l) (in_order syntax_of_Attribute m)
 
-  pub same_behind_one : (x y : Bool) → and before (and x (and inside y)) ≡ and attributes (and x y)
-  same_behind_one x y = across before x inside y ∙ ap (λ c. and c (and x y)) (same_places l m)
+  pub same_after_one : (x y : Bool) → and before (and x (and inside y)) ≡ and attributes (and x y)
+  same_after_one x y = across before x inside y ∙ ap (λ c. and c (and x y)) (same_places l m)
 
-  pub same_behind_two : (x z y : Bool) → and before (and x (and z (and inside y))) ≡ and attributes (and x (and z y))
-  same_behind_two true z y = same_behind_one z y
-  same_behind_two false z y = and_false before ∙ sym (and_false attributes)
+  pub same_after_two : (x z y : Bool) → and before (and x (and z (and inside y))) ≡ and attributes (and x (and z y))
+  same_after_two true z y = same_after_one z y
+  same_after_two false z y = and_false before ∙ sym (and_false attributes)
 
-  pub same_behind_three : (x z v y : Bool) → and before (and x (and z (and v (and inside y)))) ≡ and attributes (and x (and z (and v y)))
-  same_behind_three true z v y = same_behind_two z v y
-  same_behind_three false z v y = and_false before ∙ sym (and_false attributes)
+  pub same_after_three : (x z v y : Bool) → and before (and x (and z (and v (and inside y)))) ≡ and attributes (and x (and z (and v y)))
+  same_after_three true z v y = same_after_two z v y
+  same_after_three false z v y = and_false before ∙ sym (and_false attributes)
 
-  pub same_behind_four : (x z v w y : Bool) → and before (and x (and z (and v (and w (and inside y))))) ≡ and attributes (and x (and z (and v (and w y))))
-  same_behind_four true z v w y = same_behind_three z v w y
-  same_behind_four false z v w y = and_false before ∙ sym (and_false attributes)
+  pub same_after_four : (x z v w y : Bool) → and before (and x (and z (and v (and w (and inside y))))) ≡ and attributes (and x (and z (and v (and w y))))
+  same_after_four true z v w y = same_after_three z v w y
+  same_after_four false z v w y = and_false before ∙ sym (and_false attributes)
 
-  pub same_behind_five : (x z v w u y : Bool) → and before (and x (and z (and v (and w (and u (and inside y)))))) ≡ and attributes (and x (and z (and v (and w (and u y)))))
-  same_behind_five true z v w u y = same_behind_four z v w u y
-  same_behind_five false z v w u y = and_false before ∙ sym (and_false attributes)
+  pub same_after_five : (x z v w u y : Bool) → and before (and x (and z (and v (and w (and u (and inside y)))))) ≡ and attributes (and x (and z (and v (and w (and u y)))))
+  same_after_five true z v w u y = same_after_four z v w u y
+  same_after_five false z v w u y = and_false before ∙ sym (and_false attributes)

@@ -12,7 +12,7 @@ alike true false to from = sym (to refl)
 alike false true to from = from refl
 alike false false to from = refl
 
--- trees that are told by their parts, and tell them, are the same where the parts are
+-- trees that determine their parts, and are determined by them, are the same if the parts are
 pub told : (form parts : Syntax → Syntax) (u v s t : Syntax) → plain_syntax u ≡ form (plain_syntax s) → plain_syntax v ≡ form (plain_syntax t)
     → parts (plain_syntax u) ≡ plain_syntax s → parts (plain_syntax v) ≡ plain_syntax t → same_syntax u v ≡ same_syntax s t
 told form parts u v s t p q i j = alike (same_syntax u v) (same_syntax s t)

@@ -15,7 +15,7 @@ use Rattle.syn_lower.specs.Bounds.{behind_colon, solid, turned}
 use Rattle.syn_lower.specs.Generics.{default_of}
 use Rattle.syn_lower.specs.GenericPrints.{printed_with}
 
--- A LIST WITH WHAT STANDS BEFORE IT
+-- A LIST WITH WHAT PRECEDES IT
 
 pub none_printed : {T P : Type 0} (head : Syntax) (v : T → Syntax) (w : P → Syntax) (s : Sequence T P) → s ≡ nothing_listed → printed_with head v w s.pairs s.last ≡ end
 none_printed head v w s h = ap (λ (z : Sequence _ _). printed_with head v w z.pairs z.last) h
@@ -63,8 +63,8 @@ module _ (first others : Syntax) where
       go true = refl
       go false = refl
 
-  pub behind_solid : (c : Option Colon) → behind_colon (maybe colon_syntax c) (solid members) ≡ Left (Both (or_added colon (maybe colon_syntax c)) (solid members))
-  behind_solid c = ap (behind_colon (maybe colon_syntax c)) solid_is ∙ go c (bare members) ∙ ap (λ z. Left (Both (or_added colon (maybe colon_syntax c)) z)) (sym solid_is)
+  pub after_solid : (c : Option Colon) → behind_colon (maybe colon_syntax c) (solid members) ≡ Left (Both (or_added colon (maybe colon_syntax c)) (solid members))
+  after_solid c = ap (behind_colon (maybe colon_syntax c)) solid_is ∙ go c (bare members) ∙ ap (λ z. Left (Both (or_added colon (maybe colon_syntax c)) z)) (sym solid_is)
     where
       go : (c : Option Colon) (b : Bool) → behind_colon (maybe colon_syntax c) (pick b (Both (Added []) members) members) ≡ Left (Both (or_added colon (maybe colon_syntax c)) (pick b (Both (Added []) members) members))
       go (Some m) true = refl
@@ -92,10 +92,10 @@ module _ {T : Type 0} (v : T → Syntax) where
       print (Vanishing false (behind_colon (maybe colon_syntax c) (solid (list_of v plus_syntax l o)))) ≡ printed_with (or_added colon (maybe colon_syntax c)) v plus_syntax l o
   print_bounds None [] None = ap (λ z. print (Vanishing false (behind_colon (Right Nothing) z))) solid_none
   print_bounds (Some m) [] None = ap (λ z. print (Vanishing false (Left (Both (colon_syntax m) z)))) solid_none ∙ no_bounds m (Node (Left Nothing)) refl refl
-  print_bounds c [] (Some t) = ap (λ z. print (Vanishing false z)) (behind_solid (v t) (Right Nothing) c) ∙ shown_solid (v t) (Right Nothing) (or_added colon (maybe colon_syntax c))
+  print_bounds c [] (Some t) = ap (λ z. print (Vanishing false z)) (after_solid (v t) (Right Nothing) c) ∙ shown_solid (v t) (Right Nothing) (or_added colon (maybe colon_syntax c))
   print_bounds c (x ∷ l) o =
       let others = Left (Both (plus_syntax x.1) (list_of v plus_syntax l o)) in
-      ap (λ z. print (Vanishing false z)) (behind_solid (v x.0) others c) ∙ shown_solid (v x.0) others (or_added colon (maybe colon_syntax c))
+      ap (λ z. print (Vanishing false z)) (after_solid (v x.0) others c) ∙ shown_solid (v x.0) others (or_added colon (maybe colon_syntax c))
 
 -- A WHERE CLAUSE
 pub print_where : {T P : Type 0} (v : T → Syntax) (w : P → Syntax) (token : Where) (l : List (T × P)) (o : Option T) →

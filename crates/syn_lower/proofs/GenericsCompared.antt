@@ -16,10 +16,10 @@ use Rattle.syn_tokens.specs.Listing.{list_of}
 use Rattle.syn_tokens.specs.declared.span.Span.{Span as TokenSpan}
 use Rattle.syn_lower.specs.Parts.{or_added}
 use Rattle.syn_lower.specs.Bounds.{behind_colon, solid, turned}
-use Rattle.syn_lower.specs.Generics.{GtStands, LtStands, as_row, clause_aside, default_of, is_written, no_parameters, param_of, parameters_of, sign_of, stands, syntax_of_GenericParam}
+use Rattle.syn_lower.specs.Generics.{GtPresent, LtPresent, as_row, clause_aside, default_of, is_written, no_parameters, param_of, parameters_of, sign_of, stands, syntax_of_GenericParam}
 use Rattle.syn_lower.specs.declared.generics.GenericParam.TheVariants as GenericParam-m
 use Rattle.syn_lower.proofs.Compared.{told}
-use Rattle.syn_lower.proofs.GenericPrints.{behind_solid}
+use Rattle.syn_lower.proofs.GenericPrints.{after_solid}
 
 -- LISTS
 
@@ -41,7 +41,7 @@ abbrev inside : Syntax → Syntax
 inside (Both a s) = s
 inside s = s
 
--- lists stand under a Node
+-- lists are under a Node
 module _ (s : Syntax) where
   abbrev made : Bool → Syntax
   made b = pick b (Both (Added []) (Node (Right s))) (Node (Right s))
@@ -156,24 +156,24 @@ module _ {T : Type 0} (v : T → Syntax) where
   none_absent = ap (behind_colon (Right Nothing)) solid_none
 
   one_stands : (t : T) → Stand (listing [] (Some t))
-  one_stands t = behind_solid (v t) (Right Nothing)
+  one_stands t = after_solid (v t) (Right Nothing)
 
   more_stand : (x : T × Plus) (l : List (T × Plus)) (o : Option T) → Stand (listing (x ∷ l) o)
-  more_stand x l o = behind_solid (v x.0) (Left (Both (plus_syntax x.1) (list_of v plus_syntax l o)))
+  more_stand x l o = after_solid (v x.0) (Left (Both (plus_syntax x.1) (list_of v plus_syntax l o)))
 
-  behind_same : (c d : Option Colon) (l m : List (T × Plus)) (o q : Option T) → same_parts c (listing l o) d (listing m q) ≡ and (both_colons c d) (same_syntax (listing l o) (listing m q))
-  behind_same c d [] [] None None = none_none (listing [] None) none_absent c d
-  behind_same c d [] [] None (Some u) = none_some (listing [] None) none_absent (listing [] (Some u)) (one_stands u) (same_solid v plus_syntax [] [] None (Some u)) c d
-  behind_same c d [] [] (Some t) None = some_none (listing [] None) none_absent (listing [] (Some t)) (one_stands t) (same_solid v plus_syntax [] [] (Some t) None) c d
-  behind_same c d [] [] (Some t) (Some u) = some_some (listing [] (Some t)) (listing [] (Some u)) (one_stands t) (one_stands u) c d
-  behind_same c d [] (y ∷ m) None q = none_some (listing [] None) none_absent (listing (y ∷ m) q) (more_stand y m q) (same_solid v plus_syntax [] (y ∷ m) None q) c d
-  behind_same c d [] (y ∷ m) (Some t) q = some_some (listing [] (Some t)) (listing (y ∷ m) q) (one_stands t) (more_stand y m q) c d
-  behind_same c d (x ∷ l) [] o None = some_none (listing [] None) none_absent (listing (x ∷ l) o) (more_stand x l o) (same_solid v plus_syntax (x ∷ l) [] o None) c d
-  behind_same c d (x ∷ l) [] o (Some u) = some_some (listing (x ∷ l) o) (listing [] (Some u)) (more_stand x l o) (one_stands u) c d
-  behind_same c d (x ∷ l) (y ∷ m) o q = some_some (listing (x ∷ l) o) (listing (y ∷ m) q) (more_stand x l o) (more_stand y m q) c d
+  after_same : (c d : Option Colon) (l m : List (T × Plus)) (o q : Option T) → same_parts c (listing l o) d (listing m q) ≡ and (both_colons c d) (same_syntax (listing l o) (listing m q))
+  after_same c d [] [] None None = none_none (listing [] None) none_absent c d
+  after_same c d [] [] None (Some u) = none_some (listing [] None) none_absent (listing [] (Some u)) (one_stands u) (same_solid v plus_syntax [] [] None (Some u)) c d
+  after_same c d [] [] (Some t) None = some_none (listing [] None) none_absent (listing [] (Some t)) (one_stands t) (same_solid v plus_syntax [] [] (Some t) None) c d
+  after_same c d [] [] (Some t) (Some u) = some_some (listing [] (Some t)) (listing [] (Some u)) (one_stands t) (one_stands u) c d
+  after_same c d [] (y ∷ m) None q = none_some (listing [] None) none_absent (listing (y ∷ m) q) (more_stand y m q) (same_solid v plus_syntax [] (y ∷ m) None q) c d
+  after_same c d [] (y ∷ m) (Some t) q = some_some (listing [] (Some t)) (listing (y ∷ m) q) (one_stands t) (more_stand y m q) c d
+  after_same c d (x ∷ l) [] o None = some_none (listing [] None) none_absent (listing (x ∷ l) o) (more_stand x l o) (same_solid v plus_syntax (x ∷ l) [] o None) c d
+  after_same c d (x ∷ l) [] o (Some u) = some_some (listing (x ∷ l) o) (listing [] (Some u)) (more_stand x l o) (one_stands u) c d
+  after_same c d (x ∷ l) (y ∷ m) o q = some_some (listing (x ∷ l) o) (listing (y ∷ m) q) (more_stand x l o) (more_stand y m q) c d
 
   pub same_bounds : (c d : Option Colon) (l m : List (T × Plus)) (o q : Option T) → same_parts c (listing l o) d (listing m q) ≡ and (both_colons c d) (same_syntax (list_of v plus_syntax l o) (list_of v plus_syntax m q))
-  same_bounds c d l m o q = behind_same c d l m o q ∙ ap (and (both_colons c d)) (same_solid v plus_syntax l m o q)
+  same_bounds c d l m o q = after_same c d l m o q ∙ ap (and (both_colons c d)) (same_solid v plus_syntax l m o q)
 
 -- of a lifetime
 module _ {T : Type 0} (v : T → Syntax) where
@@ -188,19 +188,19 @@ module _ {T : Type 0} (v : T → Syntax) where
   more_outlive x l o None = refl
   more_outlive x l o (Some m) = refl
 
-  behind_outlived : (c d : Option Colon) (l m : List (T × Plus)) (o q : Option T) → same_parts c (outlived l o) d (outlived m q) ≡ and (both_colons c d) (same_syntax (outlived l o) (outlived m q))
-  behind_outlived c d [] [] None None = none_none (Node (Right Nothing)) refl c d
-  behind_outlived c d [] [] None (Some u) = none_some (Node (Right Nothing)) refl (outlived [] (Some u)) (one_outlives u) refl c d
-  behind_outlived c d [] [] (Some t) None = some_none (Node (Right Nothing)) refl (outlived [] (Some t)) (one_outlives t) refl c d
-  behind_outlived c d [] [] (Some t) (Some u) = some_some (outlived [] (Some t)) (outlived [] (Some u)) (one_outlives t) (one_outlives u) c d
-  behind_outlived c d [] (y ∷ m) None q = none_some (Node (Right Nothing)) refl (outlived (y ∷ m) q) (more_outlive y m q) refl c d
-  behind_outlived c d [] (y ∷ m) (Some t) q = some_some (outlived [] (Some t)) (outlived (y ∷ m) q) (one_outlives t) (more_outlive y m q) c d
-  behind_outlived c d (x ∷ l) [] o None = some_none (Node (Right Nothing)) refl (outlived (x ∷ l) o) (more_outlive x l o) refl c d
-  behind_outlived c d (x ∷ l) [] o (Some u) = some_some (outlived (x ∷ l) o) (outlived [] (Some u)) (more_outlive x l o) (one_outlives u) c d
-  behind_outlived c d (x ∷ l) (y ∷ m) o q = some_some (outlived (x ∷ l) o) (outlived (y ∷ m) q) (more_outlive x l o) (more_outlive y m q) c d
+  after_outlived : (c d : Option Colon) (l m : List (T × Plus)) (o q : Option T) → same_parts c (outlived l o) d (outlived m q) ≡ and (both_colons c d) (same_syntax (outlived l o) (outlived m q))
+  after_outlived c d [] [] None None = none_none (Node (Right Nothing)) refl c d
+  after_outlived c d [] [] None (Some u) = none_some (Node (Right Nothing)) refl (outlived [] (Some u)) (one_outlives u) refl c d
+  after_outlived c d [] [] (Some t) None = some_none (Node (Right Nothing)) refl (outlived [] (Some t)) (one_outlives t) refl c d
+  after_outlived c d [] [] (Some t) (Some u) = some_some (outlived [] (Some t)) (outlived [] (Some u)) (one_outlives t) (one_outlives u) c d
+  after_outlived c d [] (y ∷ m) None q = none_some (Node (Right Nothing)) refl (outlived (y ∷ m) q) (more_outlive y m q) refl c d
+  after_outlived c d [] (y ∷ m) (Some t) q = some_some (outlived [] (Some t)) (outlived (y ∷ m) q) (one_outlives t) (more_outlive y m q) c d
+  after_outlived c d (x ∷ l) [] o None = some_none (Node (Right Nothing)) refl (outlived (x ∷ l) o) (more_outlive x l o) refl c d
+  after_outlived c d (x ∷ l) [] o (Some u) = some_some (outlived (x ∷ l) o) (outlived [] (Some u)) (more_outlive x l o) (one_outlives u) c d
+  after_outlived c d (x ∷ l) (y ∷ m) o q = some_some (outlived (x ∷ l) o) (outlived (y ∷ m) q) (more_outlive x l o) (more_outlive y m q) c d
 
   pub same_outlived : (c d : Option Colon) (l m : List (T × Plus)) (o q : Option T) → same_parts c (outlived l o) d (outlived m q) ≡ and (both_colons c d) (same_syntax (list_of v plus_syntax l o) (list_of v plus_syntax m q))
-  same_outlived c d l m o q = behind_outlived c d l m o q ∙ ap (and (both_colons c d)) (same_turned v plus_syntax l m o q)
+  same_outlived c d l m o q = after_outlived c d l m o q ∙ ap (and (both_colons c d)) (same_turned v plus_syntax l m o q)
 
 -- A DEFAULT
 pub same_default : {T : Type 0} (v : T → Syntax) (a b : Option Eq) (c d : Option T) →
@@ -333,13 +333,13 @@ alike c [] r h k = absurd (cc h)
 alike c (x ∷ l) [] h k = absurd (cc k)
 alike c (x ∷ l) (y ∷ r) h k = ap (λ b. and b true) (eq-eqb c c refl)
 
-same_lt : (a b : Option Lt) → LtStands a → LtStands b → same_mark (sign_of (maybe lt_syntax a)) (sign_of (maybe lt_syntax b)) ≡ same_bool (stands a) (stands b)
+same_lt : (a b : Option Lt) → LtPresent a → LtPresent b → same_mark (sign_of (maybe lt_syntax a)) (sign_of (maybe lt_syntax b)) ≡ same_bool (stands a) (stands b)
 same_lt None None h k = refl
 same_lt None (Some n) h k = unlike_none 60 n.spans k
 same_lt (Some m) None h k = none_unlike 60 m.spans h
 same_lt (Some m) (Some n) h k = alike 60 m.spans n.spans h k
 
-same_gt : (a b : Option Gt) → GtStands a → GtStands b → same_mark (sign_of (maybe gt_syntax a)) (sign_of (maybe gt_syntax b)) ≡ same_bool (stands a) (stands b)
+same_gt : (a b : Option Gt) → GtPresent a → GtPresent b → same_mark (sign_of (maybe gt_syntax a)) (sign_of (maybe gt_syntax b)) ≡ same_bool (stands a) (stands b)
 same_gt None None h k = refl
 same_gt None (Some n) h k = unlike_none 62 n.spans k
 same_gt (Some m) None h k = none_unlike 62 m.spans h
@@ -360,7 +360,7 @@ like_none a l o c = and (same_bool false (stands a)) (and (same_bool false (stan
 abbrev none_like : Option Lt → List (Param × Comma) → Option Param → Option Gt → Bool
 none_like a l o c = and (same_bool (stands a) false) (and (same_bool (stands c) false) (same_syntax (one_row l o) Done))
 
--- there is neither a sign nor a parameter; or something stands
+-- there is neither a sign nor a parameter; or there is something
 abbrev Shape : Option Lt → List (Param × Comma) → Option Param → Option Gt → Type 0
 Shape a l o c =
     ((whole a l o c ≡ no_parameters) × (stands a ≡ false) × (stands c ≡ false) × (one_row l o ≡ Done))
@@ -380,7 +380,7 @@ swap : (x y z : Bool) → and x (and z y) ≡ and x (and y z)
 swap x true z = ap (and x) (and_true z)
 swap x false z = ap (and x) (and_false z)
 
-pub same_parameters : (a b : Option Lt) (l m : List (Param × Comma)) (o q : Option Param) (c d : Option Gt) → LtStands a → LtStands b → GtStands c → GtStands d →
+pub same_parameters : (a b : Option Lt) (l m : List (Param × Comma)) (o q : Option Param) (c d : Option Gt) → LtPresent a → LtPresent b → GtPresent c → GtPresent d →
     same_syntax (whole a l o c) (whole b m q d) ≡ and (same_bool (stands a) (stands b)) (and (same_bool (stands c) (stands d)) (same_syntax (one_row l o) (one_row m q)))
 same_parameters a b l m o q c d ha hb hc hd = go (shape a l o c) (shape b m q d)
   where

@@ -21,7 +21,7 @@ turned_listed v w [] None = refl
 turned_listed v w [] (Some t) = refl
 turned_listed v w (x ∷ l) o = ap (λ s. Node (Left (Both (v x.0) (Left (Both (w x.1) s))))) (turned_listed v w l o)
 
--- what stands so far, before what is left
+-- the part read so far, before the rest
 abbrev pub so_far : List (Lifetime × Plus) → Syntax → Syntax
 so_far = onto Left syntax_of_lifetime plus_syntax
 

@@ -1,4 +1,4 @@
--- Where a literal, `true` or `false` stands next.
+-- Where a literal, `true` or `false` is next.
 use Rattle.std.proofs.Common.{◌≡◌, ap, ◌∙◌}
 use Rattle.syn_grammar.specs.Words.{w_true, w_false}
 use Rattle.syn_grammar.specs.Tokens.{Stream, or, at_word, ◌or_else◌}

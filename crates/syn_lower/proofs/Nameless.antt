@@ -8,7 +8,7 @@ use Rattle.syn_parse.specs.Peeks.{past}
 use Rattle.syn_recognize.proofs.Facts.{told_first, word_face, and_same}
 use Rattle.syn_lower.proofs.Restricted.{no_word}
 
--- another fact that is told first
+-- another fact that is tested first
 told_later : (n o : Fact) (c : Look) (l : Asked) (f : Lookahead) → same_fact n o ≡ false → has_fact n (facts_for ((c, o) ∷ l) f) ≡ has_fact n (facts_for l f)
 told_later n o c l f e = go (answers c f)
   where
@@ -16,7 +16,7 @@ told_later n o c l f e = go (answers c f)
     go true = ap (λ b. or b (has_fact n (facts_for l f))) e
     go false = refl
 
--- what the grammar tells of `union` is whether braces follow it
+-- the grammar's lookahead at `union`: whether braces follow it
 noted_brace : (x : Text) (m : Stream) → is_word w_union (leaf_terminal (ident x)) ≡ true → has_fact Before_brace (facts_for (asked (leaf_terminal (ident x))) (lookahead m)) ≡ answers (at_group Brace) (lookahead m)
 noted_brace x m e = subst (λ z. has_fact Before_brace (facts_for (asked (leaf_terminal (ident z))) (lookahead m)) ≡ answers (at_group Brace) (lookahead m)) (sym (word_face w_union x e))
     (told_later Before_brace Begins_item at_name ((at_group Brace, Before_brace) ∷ asked_by_name) (lookahead m) refl ∙ told_first Before_brace (at_group Brace) asked_by_name (lookahead m) refl refl)

@@ -11,23 +11,23 @@ use Rattle.syn_tokens.specs.Listing.{list_of}
 use Rattle.syn_lower.specs.Ordered.{place_of, ordered_of}
 use Rattle.syn_lower.specs.OrderedPrints.{sorted_print, comma_at, pair_part, last_part, part_row, comma_between, ordered_row}
 
--- what stands behind all members that are printed first
+-- what follows all members that are printed first
 put : (Syntax → Syntax) → Syntax → Syntax
 put z (More true s sp t) = More true s sp (put z t)
 put z (Last true s) = More true s call_site (z Done)
 put z t = z t
 
-behind_put : (s : Syntax) (sp : Span) (t : Syntax) → behind s sp t ≡ put (More false s sp) t
+after_put : (s : Syntax) (sp : Span) (t : Syntax) → behind s sp t ≡ put (More false s sp) t
 unfolding put
-behind_put s sp (More true x q u) = ap (More true x q) (behind_put s sp u)
-behind_put s sp (Last true x) = refl
-behind_put s sp t = refl
+after_put s sp (More true x q u) = ap (More true x q) (after_put s sp u)
+after_put s sp (Last true x) = refl
+after_put s sp t = refl
 
-put_behind : (z : Syntax → Syntax) (s : Syntax) (sp : Span) (t : Syntax) → put z (put (More false s sp) t) ≡ put (λ u. z (More false s sp u)) t
+put_after : (z : Syntax → Syntax) (s : Syntax) (sp : Span) (t : Syntax) → put z (put (More false s sp) t) ≡ put (λ u. z (More false s sp u)) t
 unfolding put
-put_behind z s sp (More true x q u) = ap (More true x q) (put_behind z s sp u)
-put_behind z s sp (Last true x) = refl
-put_behind z s sp t = refl
+put_after z s sp (More true x q u) = ap (More true x q) (put_after z s sp u)
+put_after z s sp (Last true x) = refl
+put_after z s sp t = refl
 
 and_yes : (b : Bool) → and b true ≡ b
 and_yes true = refl
@@ -36,8 +36,8 @@ and_yes false = refl
 regroup : (a c r q : Stream) → ((a ⧺ c) ⧺ r) ⧺ q ≡ a ⧺ (c ⧺ (r ⧺ q))
 regroup a c r q = append_append (a ⧺ c) r q ∙ append_append a c (r ⧺ q)
 
-behind_part : (a s : Stream) (p : Span) (u : Stream) → a ⧺ (s ⧺ punct 44 false p u) ≡ (a ⧺ (s ⧺ comma_at p)) ⧺ u
-behind_part a s p u = ap (λ r. a ⧺ r) (sym (append_append s (comma_at p) u)) ∙ sym (append_append a (s ⧺ comma_at p) u)
+after_part : (a s : Stream) (p : Span) (u : Stream) → a ⧺ (s ⧺ punct 44 false p u) ≡ (a ⧺ (s ⧺ comma_at p)) ⧺ u
+after_part a s p u = ap (λ r. a ⧺ r) (sym (append_append s (comma_at p) u)) ∙ sym (append_append a (s ⧺ comma_at p) u)
 
 -- a member with its comma: put into place, and at the beginning of a list
 put_more : (z : Syntax → Syntax) (zs : Stream) (b : Bool) (s : Syntax) (p : Span) (m : Syntax) (firsts others c : Stream)
@@ -47,21 +47,21 @@ put_more : (z : Syntax → Syntax) (zs : Stream) (b : Bool) (s : Syntax) (p : Sp
 unfolding put
 put_more z zs true s p m firsts others c first other = ap (λ u. show s ⧺ punct 44 false p u) first ∙ sym (regroup (show s) (comma_at p) firsts (c ⧺ (zs ⧺ others)))
 put_more z zs false s p m firsts others c first other =
-    ap (λ u. show (put z u)) (behind_put s p (sort m)) ∙ ap show (put_behind z s p (sort m)) ∙ other ∙ ap (λ r. firsts ⧺ (c ⧺ r)) (append_append zs (show s ⧺ comma_at p) others)
+    ap (λ u. show (put z u)) (after_put s p (sort m)) ∙ ap show (put_after z s p (sort m)) ∙ other ∙ ap (λ r. firsts ⧺ (c ⧺ r)) (append_append zs (show s ⧺ comma_at p) others)
 
 sorted_more : (b : Bool) (s : Syntax) (p : Span) (m : Syntax) (firsts others c : Stream)
     → (b ≡ true → show (sort m) ≡ firsts ⧺ (c ⧺ others))
     → (b ≡ false → show (put (More false s p) (sort m)) ≡ firsts ⧺ (c ⧺ ((show s ⧺ comma_at p) ⧺ others)))
     → show (sort (More b s p m)) ≡ (pick (same_bool true b) (show s ⧺ comma_at p) end ⧺ firsts) ⧺ (c ⧺ (pick (same_bool false b) (show s ⧺ comma_at p) end ⧺ others))
 sorted_more true s p m firsts others c first other = ap (λ u. show s ⧺ punct 44 false p u) (first refl) ∙ sym (regroup (show s) (comma_at p) firsts (c ⧺ others))
-sorted_more false s p m firsts others c first other = ap show (behind_put s p (sort m)) ∙ other refl
+sorted_more false s p m firsts others c first other = ap show (after_put s p (sort m)) ∙ other refl
 
 module _ {T P : Type 0} (f : Syntax → Bool) (v : T → Syntax) (w : P → Syntax) where
   -- a list, as it is printed
   abbrev sorted : List (T × P) → Option T → Syntax
   sorted l o = sort (renew (ordered_of f (list_of v w l o)))
 
-  -- the comma behind the last member, if it is printed first and others follow it then
+  -- the comma after the last member, if it is printed first and others follow it then
   abbrev last_comma : Option T → Stream
   last_comma None = end
   last_comma (Some t) = pick (f (v t)) (comma_at call_site) end
@@ -74,7 +74,7 @@ module _ {T P : Type 0} (f : Syntax → Bool) (v : T → Syntax) (w : P → Synt
   comma_before_first x l None e = refl
   comma_before_first x l (Some t) e = ap (λ b. pick (and (f (v t)) (not b || list_any (λ (y : T × P). not (f (v y.0))) l)) (comma_at call_site) end) e
 
-  -- what is put behind all members that are printed first stands before the others
+  -- what is put after all members that are printed first is before the others
   put_row : (z : Syntax → Syntax) (zs : Stream) → ((t : Syntax) → show (z t) ≡ zs ⧺ show t) → (l : List (T × P)) (o : Option T) →
       show (put z (sorted l o)) ≡ part_row f v w true l o ⧺ (last_comma o ⧺ (zs ⧺ part_row f v w false l o))
   unfolding put pair_part last_part
@@ -87,7 +87,7 @@ module _ {T P : Type 0} (f : Syntax → Bool) (v : T → Syntax) (w : P → Synt
   put_row z zs h (x ∷ l) o =
       put_more z zs (f (v x.0)) (renew (v x.0)) (place_of (w x.1)) (renew (ordered_of f (list_of v w l o))) _ _ _ (put_row z zs h l o)
       (put_row (λ u. z (More false (renew (v x.0)) (place_of (w x.1)) u)) (zs ⧺ (print (v x.0) ⧺ comma_at (place_of (w x.1))))
-      (λ u. h (More false (renew (v x.0)) (place_of (w x.1)) u) ∙ behind_part zs (print (v x.0)) (place_of (w x.1)) (show u)) l o)
+      (λ u. h (More false (renew (v x.0)) (place_of (w x.1)) u) ∙ after_part zs (print (v x.0)) (place_of (w x.1)) (show u)) l o)
 
   pub sorted_row : (l : List (T × P)) (o : Option T) → sorted_print (ordered_of f (list_of v w l o)) ≡ ordered_row f v w l o
   unfolding pair_part last_part

@@ -12,10 +12,10 @@ use Rattle.syn_tokens.specs.Listing.{list_of}
 use Rattle.syn_tokens.specs.Lists.{Sequence, nothing_listed}
 use Rattle.syn_tokens.specs.declared.span.Span.{Span as TokenSpan}
 use Rattle.syn_lower.specs.Generics.{as_row, clause_aside, parameters_of, sign_of, syntax_of_GenericParam}
-use Rattle.syn_lower.specs.GenericPrints.{added_comma, behind_last, comma_at, generics_part, has_others, is_lifetime, pairs_part, param_part, params_part}
+use Rattle.syn_lower.specs.GenericPrints.{added_comma, after_last, comma_at, generics_part, has_others, is_lifetime, pairs_part, param_part, params_part}
 use Rattle.syn_lower.specs.declared.generics.GenericParam.TheVariants as GenericParam-m
 
--- THE MEMBERS OF THE FIRST FORM THAT STAND IN FRONT, with this behind one that is last; and what follows them
+-- THE LEADING MEMBERS OF THE FIRST FORM, with this after one that is last; and what follows them
 lead : Stream → Syntax → Stream
 lead c (More true s sp t) = show s ⧺ punct 44 false sp (lead c t)
 lead c (Last true s) = show s ⧺ c
@@ -41,21 +41,21 @@ lead_tail (More false s sp t) = refl
 lead_tail (Last false s) = refl
 lead_tail _ = refl
 
-lead_behind : (c : Stream) (s : Syntax) (sp : Span) (t : Syntax) → lead c (behind s sp t) ≡ lead added_comma t
+lead_after : (c : Stream) (s : Syntax) (sp : Span) (t : Syntax) → lead c (behind s sp t) ≡ lead added_comma t
 unfolding lead
-lead_behind c s sp (More true x q u) = ap (λ z. show x ⧺ punct 44 false q z) (lead_behind c s sp u)
-lead_behind c s sp (Last true x) = refl
-lead_behind c s sp (More false x q u) = refl
-lead_behind c s sp (Last false x) = refl
-lead_behind c s sp _ = refl
+lead_after c s sp (More true x q u) = ap (λ z. show x ⧺ punct 44 false q z) (lead_after c s sp u)
+lead_after c s sp (Last true x) = refl
+lead_after c s sp (More false x q u) = refl
+lead_after c s sp (Last false x) = refl
+lead_after c s sp _ = refl
 
-tail_behind : (s : Syntax) (sp : Span) (t : Syntax) → tail (behind s sp t) ≡ show s ⧺ punct 44 false sp (tail t)
+tail_after : (s : Syntax) (sp : Span) (t : Syntax) → tail (behind s sp t) ≡ show s ⧺ punct 44 false sp (tail t)
 unfolding tail
-tail_behind s sp (More true x q u) = tail_behind s sp u
-tail_behind s sp (Last true x) = refl
-tail_behind s sp (More false x q u) = refl
-tail_behind s sp (Last false x) = refl
-tail_behind s sp _ = refl
+tail_after s sp (More true x q u) = tail_after s sp u
+tail_after s sp (Last true x) = refl
+tail_after s sp (More false x q u) = refl
+tail_after s sp (Last false x) = refl
+tail_after s sp _ = refl
 
 -- TWO PASSES
 
@@ -84,7 +84,7 @@ same_both false s = refl
 lead_sorted : (c : Stream) (t : Syntax) → is_list t ≡ true → lead c (sort t) ≡ firsts (pick (any_other t) added_comma c) t
 unfolding lead
 lead_sorted c (More true s sp t) h = ap (λ z. show s ⧺ punct 44 false sp z) (lead_sorted c t h)
-lead_sorted c (More false s sp t) h = lead_behind c s sp (sort t) ∙ lead_sorted added_comma t h ∙ ap (λ z. firsts z t) (same_both (any_other t) added_comma)
+lead_sorted c (More false s sp t) h = lead_after c s sp (sort t) ∙ lead_sorted added_comma t h ∙ ap (λ z. firsts z t) (same_both (any_other t) added_comma)
 lead_sorted c (Last true s) h = refl
 lead_sorted c (Last false s) h = refl
 lead_sorted c Done h = refl
@@ -93,7 +93,7 @@ lead_sorted c _ h = absurd (cc h)
 tail_sorted : (t : Syntax) → is_list t ≡ true → tail (sort t) ≡ others t
 unfolding tail
 tail_sorted (More true s sp t) h = tail_sorted t h
-tail_sorted (More false s sp t) h = tail_behind s sp (sort t) ∙ ap (λ z. show s ⧺ punct 44 false sp z) (tail_sorted t h)
+tail_sorted (More false s sp t) h = tail_after s sp (sort t) ∙ ap (λ z. show s ⧺ punct 44 false sp z) (tail_sorted t h)
 tail_sorted (Last true s) h = refl
 tail_sorted (Last false s) h = refl
 tail_sorted Done h = refl
@@ -160,12 +160,12 @@ row_rest ((GenericParam-m.Const p, q) ∷ l) o =
 pub row_shown : (l : List (Param × Comma)) (o : Option Param) → show (sort (row l o)) ≡ params_part l o
 row_shown l o =
     sorted_shown (row l o) (row_is_list l o)
-    ∙ ap₂ (λ a b. a ⧺ b) (ap (λ b. firsts (pick b added_comma end) (row l o)) (row_others l o) ∙ row_firsts (behind_last l) l o) (row_rest l o)
+    ∙ ap₂ (λ a b. a ⧺ b) (ap (λ b. firsts (pick b added_comma end) (row l o)) (row_others l o) ∙ row_firsts (after_last l) l o) (row_rest l o)
     ∙ go o
   where
-    go : (o : Option Param) → (pairs_part true l ⧺ last_part true (behind_last l) o) ⧺ (pairs_part false l ⧺ last_part false end o) ≡ params_part l o
+    go : (o : Option Param) → (pairs_part true l ⧺ last_part true (after_last l) o) ⧺ (pairs_part false l ⧺ last_part false end o) ≡ params_part l o
     go None = ap₂ (λ a b. a ⧺ b) (append_end (pairs_part true l)) (append_end (pairs_part false l))
-    go (Some p) = append_append (pairs_part true l) (param_part true p (behind_last l)) (pairs_part false l ⧺ param_part false p end)
+    go (Some p) = append_append (pairs_part true l) (param_part true p (after_last l)) (pairs_part false l ⧺ param_part false p end)
 
 -- `<` AND `>`
 

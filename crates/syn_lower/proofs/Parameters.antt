@@ -1,4 +1,4 @@
--- A generic parameter is read by its attributes, and then by what stands next.
+-- A generic parameter is read by its attributes, and then by the next token.
 use Rattle.std.proofs.Common.{◌≡◌, Bool, true, false, Some, None, refl, ap, ap₂, ◌∙◌}
 use Rattle.syn_grammar.specs.Words.{w_const}
 use Rattle.syn_grammar.specs.Tokens.{Stream, at_lifetime, at_word, pick}
@@ -9,13 +9,13 @@ use Rattle.syn_grammar.specs.Take.{Out, sees}
 use Rattle.syn_grammar.specs.Run.{and_then, branch, first_of, parse_form, parse_rule, union, wrap}
 use Rattle.syn_grammar.proofs.Begins.{not_here, not_there}
 use Rattle.syn_grammar.proofs.Each as each
-use Rattle.syn_lower.specs.Parameters.{after, const_behind, const_form, lifetime_behind, lifetime_form, type_behind, type_form}
+use Rattle.syn_lower.specs.Parameters.{after, const_after, const_form, lifetime_after, lifetime_form, type_after, type_form}
 
-pub lifetime_parameter_is : (ts : Stream) → parse_rule lifetime_parameter ts ≡ after (parse_rule attributes ts) lifetime_behind
-unfolding lifetime_behind
+pub lifetime_parameter_is : (ts : Stream) → parse_rule lifetime_parameter ts ≡ after (parse_rule attributes ts) lifetime_after
+unfolding lifetime_after
 lifetime_parameter_is ts = each.lifetime_parameter_is ts ∙ go (parse_rule attributes ts)
   where
-    go : (o : Out) → wrap Node (and_then o (parse_form lifetime_form)) ≡ after o lifetime_behind
+    go : (o : Out) → wrap Node (and_then o (parse_form lifetime_form)) ≡ after o lifetime_after
     go None = refl
     go (Some p) = inside (parse_form lifetime_form p.1)
       where
@@ -23,16 +23,16 @@ lifetime_parameter_is ts = each.lifetime_parameter_is ts ∙ go (parse_rule attr
         inside None = refl
         inside (Some q) = refl
 
--- what isn't a lifetime, behind its attributes
+-- what isn't a lifetime, after its attributes
 abbrev pub other_form : Grammar
 other_form = when at_word w_const then const_form else type_form
 
--- by what stands next
+-- by the next token
 abbrev pub by_next : Syntax → Stream → Out
-by_next attrs ts = pick (sees at_lifetime ts) (wrap Left (lifetime_behind attrs ts)) (pick (sees (at_word w_const) ts) (wrap Right (const_behind attrs ts)) (wrap Right (type_behind attrs ts)))
+by_next attrs ts = pick (sees at_lifetime ts) (wrap Left (lifetime_after attrs ts)) (pick (sees (at_word w_const) ts) (wrap Right (const_after attrs ts)) (wrap Right (type_after attrs ts)))
 
-others : (a : Syntax) (ts : Stream) → wrap Right (wrap (Both a) (parse_form other_form ts)) ≡ pick (sees (at_word w_const) ts) (wrap Right (const_behind a ts)) (wrap Right (type_behind a ts))
-unfolding const_behind type_behind
+others : (a : Syntax) (ts : Stream) → wrap Right (wrap (Both a) (parse_form other_form ts)) ≡ pick (sees (at_word w_const) ts) (wrap Right (const_after a ts)) (wrap Right (type_after a ts))
+unfolding const_after type_after
 others a ts = go (sees (at_word w_const) ts)
   where
     constant : (o : Out) → wrap Right (wrap (Both a) (wrap Left o)) ≡ wrap Right (wrap (λ s. Both a (Left s)) o)
@@ -47,8 +47,8 @@ others a ts = go (sees (at_word w_const) ts)
     go true = constant (parse_form const_form ts)
     go false = of_type (parse_form type_form ts)
 
-turn : (a : Syntax) (ts : Stream) (b : Bool) → sees at_lifetime ts ≡ b → first_of (wrap Node (wrap (Both a) (parse_form lifetime_form ts))) (wrap (Both a) (parse_form other_form ts)) ≡ pick b (wrap Left (lifetime_behind a ts)) (pick (sees (at_word w_const) ts) (wrap Right (const_behind a ts)) (wrap Right (type_behind a ts)))
-unfolding lifetime_behind
+turn : (a : Syntax) (ts : Stream) (b : Bool) → sees at_lifetime ts ≡ b → first_of (wrap Node (wrap (Both a) (parse_form lifetime_form ts))) (wrap (Both a) (parse_form other_form ts)) ≡ pick b (wrap Left (lifetime_after a ts)) (pick (sees (at_word w_const) ts) (wrap Right (const_after a ts)) (wrap Right (type_after a ts)))
+unfolding lifetime_after
 turn a ts true e = ap (λ o. first_of (wrap Node (wrap (Both a) (parse_form lifetime_form ts))) (wrap (Both a) o)) (not_here at_lifetime other_form refl ts e) ∙ go (parse_form lifetime_form ts)
   where
     go : (o : Out) → first_of (wrap Node (wrap (Both a) o)) None ≡ wrap Left (wrap (λ s. Node (Both a s)) o)

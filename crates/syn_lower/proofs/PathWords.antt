@@ -1,4 +1,4 @@
--- The words of a path in a type: whether arguments may stand behind one is known before it is read.
+-- The words of a path in a type: whether arguments may follow one is known before it is read.
 use Rattle.std.proofs.Common.{◌≡◌, Bool, true, false, List, [], ◌∷◌, Some, refl, sym, ap, ap₂, ◌∙◌, true≢false}
 use Rattle.syn_grammar.specs.Words.{Text, w_crate, w_Self_type, w_self, w_super}
 use Rattle.syn_grammar.specs.Tokens.{Span, Stream, end, leaf, punct, group, ident, literal, or, no, same_text, at_name, at_word}
@@ -18,7 +18,7 @@ known = refl
 abbrev is_named : Text → Bool
 is_named x = or (no (is_keyword x)) (same_text x w_Self_type)
 
--- an identifier that is no keyword, or `Self`, stands next
+-- an identifier that is no keyword, or `Self`, is next
 named_seen : (x : Text) (sp : Span) (r : Stream) → sees at_named_word (leaf (ident x) sp r) ≡ is_named x
 unfolding take_token
 named_seen x sp r =
@@ -46,7 +46,7 @@ where_not false a false b c e = refl
 abbrev only_word : Text → Span → Stream → Bool → Out
 only_word x sp r b = only b (Some (Token (ident x) sp, r))
 
--- where such a word stands next, no other keyword of paths does
+-- if such a word is next, no other keyword of paths is
 pub named_word : (ts : Stream) → sees at_named_word ts ≡ true → take_token (name_or path_words) ts ≡ take_token (name_or (w_Self_type ∷ [])) ts
 unfolding take_token
 named_word end e = refl

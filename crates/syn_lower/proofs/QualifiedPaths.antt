@@ -10,7 +10,7 @@ use Rattle.syn_tokens.specs.Lists.{listed}
 use Rattle.syn_tokens.specs.Listing.{joined_of}
 use Rattle.syn_tokens.specs.Rows.{row}
 use Rattle.syn_tokens.proofs.Rows.{joined_row}
-use Rattle.syn_lower.specs.QualifiedPaths.{part, surplus, words_in, separator_behind, words_behind, qualified}
+use Rattle.syn_lower.specs.QualifiedPaths.{part, surplus, words_in, separator_after, words_after, qualified}
 use Rattle.syn_lower.specs.QualifiedPrints.{word_part, words_row}
 
 pub print_part : {X : Type 0} (v : X → Syntax) (o : Option X) → print (part (maybe v o)) ≡ print (maybe v o)
@@ -45,11 +45,11 @@ module _ {T P : Type 0} (v : T → Syntax) (w : P → Syntax) (gt : Stream) wher
   abbrev number : List (T × P) → Option T → ℕ
   number l o = length (map (λ p. p.0) l ++ listed o)
 
-  -- the words inside, `>`, the mark behind them and the others
+  -- the words inside, `>`, the mark after them and the others
   abbrev cut_print : ℕ → Syntax → Stream
-  cut_print n s = print (words_in n s) ⧺ (gt ⧺ (print (separator_behind n s) ⧺ print (words_behind n s)))
+  cut_print n s = print (words_in n s) ⧺ (gt ⧺ (print (separator_after n s) ⧺ print (words_after n s)))
 
-  -- of one word alone, with a mark behind it or without
+  -- of one word alone, with a mark after it or without
   cut_last : (n k : ℕ) (t : T) → k ≡ 1 → cut_print n (joined_of {P = P} v w [] (Some t)) ≡ words_row v w gt k [] (Some t)
   cut_last zero k t e = ap (λ s. s ⧺ (gt ⧺ end)) (append_end (print (v t))) ∙ ap (λ s. print (v t) ⧺ s) (append_end gt) ∙ sym (last_inside t) ∙ ap (λ j. word_part v gt j t) (sym e)
   cut_last (suc n) k t e = ap (λ s. s ⧺ (gt ⧺ end)) (append_end (print (v t))) ∙ ap (λ s. print (v t) ⧺ s) (append_end gt) ∙ sym (last_inside t) ∙ ap (λ j. word_part v gt j t) (sym e)
@@ -64,7 +64,7 @@ module _ {T P : Type 0} (v : T → Syntax) (w : P → Syntax) (gt : Stream) wher
       ∙ ap (λ j. words_row v w gt j (x ∷ l) o) (sym e)
 
   cut_later : (n k : ℕ) (x : T × P) (l : List (T × P)) (o : Option T) → 2 ≤ k → cut_print n (joined_of v w l o) ≡ words_row v w gt (k - 1) l o →
-      (print (v x.0) ⧺ (print (w x.1) ⧺ print (words_in n (joined_of v w l o)))) ⧺ (gt ⧺ (print (separator_behind n (joined_of v w l o)) ⧺ print (words_behind n (joined_of v w l o)))) ≡ words_row v w gt k (x ∷ l) o
+      (print (v x.0) ⧺ (print (w x.1) ⧺ print (words_in n (joined_of v w l o)))) ⧺ (gt ⧺ (print (separator_after n (joined_of v w l o)) ⧺ print (words_after n (joined_of v w l o)))) ≡ words_row v w gt k (x ∷ l) o
   cut_later n k x l o h e =
       append_append (print (v x.0)) _ _ ∙ ap (λ s. print (v x.0) ⧺ s) (append_append (print (w x.1)) _ _)
       ∙ ap (λ s. print (v x.0) ⧺ (print (w x.1) ⧺ s)) e
@@ -86,7 +86,7 @@ module _ {T P : Type 0} (v : T → Syntax) (w : P → Syntax) (gt : Stream) wher
   pub words_done : (n : ℕ) (l : List (T × P)) (o : Option T) (i : ℕ) → length l ≤ i → words_row v w gt n (drop i l) o ≡ words_row v w gt n [] o
   words_done n l o i h = ap (λ m. words_row v w gt n m o) (drop_all i l h)
 
--- WHAT STANDS BEHIND THE TYPE
+-- AFTER THE TYPE
 
 module _ {T P : Type 0} (v : T → Syntax) (w : P → Syntax) where
   pub print_no_word_inside : (n : ℕ) (as_token gt leading : Syntax) (l : List (T × P)) (o : Option T) → min n (length (map (λ p. p.0) l ++ listed o)) ≡ 0 →

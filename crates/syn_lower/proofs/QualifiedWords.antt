@@ -1,4 +1,4 @@
--- The words of a qualified path: those of the trait stand inside of the `< >`.
+-- The words of a qualified path: those of the trait are inside of the `< >`.
 use Rattle.std.proofs.Common.{◌≡◌, ℕ, suc, true, false, List, [], ◌∷◌, ◌++◌, Option, Some, None, length, refl, sym, ap, ap₂, ◌∙◌, subst, true≢false}
 use Rattle.std.specs.Prelude.{IsSome}
 use Rattle.syn_grammar.specs.Words.{w_as, colons as double, greater, less}
@@ -13,8 +13,8 @@ use Rattle.syn_grammar.proofs.Each.{qualified_path_is, type_path_is}
 use Rattle.syn_tokens.specs.Kinds.{PathSep, path_sep_syntax}
 use Rattle.syn_tokens.specs.Listing.{joined_of}
 use Rattle.syn_tokens.specs.Lists.{values}
-use Rattle.syn_lower.specs.QualifiedPaths.{part, words_in, separator_behind, words_behind, qualified}
-use Rattle.syn_lower.specs.TypeForms.{behind_trait_form, of_qualified, trait_form}
+use Rattle.syn_lower.specs.QualifiedPaths.{part, words_in, separator_after, words_after, qualified}
+use Rattle.syn_lower.specs.TypeForms.{after_trait_form, of_qualified, trait_form}
 
 abbrev Words : Type 0
 Words = List (Syntax × PathSep)
@@ -22,7 +22,7 @@ Words = List (Syntax × PathSep)
 abbrev joined : Words → Option Syntax → Syntax
 joined = joined_of itself path_sep_syntax
 
--- words, one more with `::` behind it, and others
+-- words, one more followed by `::`, and others
 module _ (x : Syntax) (c : PathSep) (m : Words) (o : Option Syntax) where
   abbrev all : Words → Syntax
   all l = joined ((l ++ (x, c) ∷ []) ++ m) o
@@ -32,12 +32,12 @@ module _ (x : Syntax) (c : PathSep) (m : Words) (o : Option Syntax) where
   inside (y ∷ []) = refl
   inside (y ∷ z ∷ l) = ap (λ s. Node (Both y.0 (Left (Both (path_sep_syntax y.1) s)))) (inside (z ∷ l))
 
-  separator : (l : Words) → separator_behind (length l) (all l) ≡ path_sep_syntax c
+  separator : (l : Words) → separator_after (length l) (all l) ≡ path_sep_syntax c
   separator [] = refl
   separator (y ∷ []) = refl
   separator (y ∷ z ∷ l) = separator (z ∷ l)
 
-  others : (l : Words) → words_behind (length l) (all l) ≡ joined m o
+  others : (l : Words) → words_after (length l) (all l) ≡ joined m o
   others [] = refl
   others (y ∷ []) = refl
   others (y ∷ z ∷ l) = others (z ∷ l)
@@ -54,7 +54,7 @@ module _ (x : Syntax) (c : PathSep) (m : Words) (o : Option Syntax) where
     split [] = refl
     split (y ∷ l) = ap₂ Both (ap (λ s. Left (Both (part as_token) (Node (Both leading s)))) (inside (y ∷ l))) (ap (Both gt) (ap₂ Both (separator (y ∷ l)) (others (y ∷ l))))
 
-    -- what they stand for, where so many words are those of the trait
+    -- what they represent, where so many words are those of the trait
     pub qualified_words : (l : Words) → Goal (length (values (record { pairs = l; last = Some x }))) l
     qualified_words l = subst (λ n. Goal n l) (sym (counted l)) (split l)
 
@@ -66,20 +66,20 @@ held (Some x) h = (x, refl)
 -- WHAT IS READ OF A QUALIFIED PATH
 
 module _ (ts m n : Stream) (lt ty : Syntax) (a : take_mark less ts ≡ Some (lt, m)) (b : parse_rule type m ≡ Some (ty, n)) where
-  -- behind its type, with a trait or without one
-  pub with_trait : sees (at_word w_as) n ≡ true → wrap Node (wrap Left (parse_rule qualified_path ts)) ≡ of_qualified lt ty (and_then (wrap Left (parse_form trait_form n)) (parse_form behind_trait_form))
+  -- after its type, with a trait or without one
+  pub with_trait : sees (at_word w_as) n ≡ true → wrap Node (wrap Left (parse_rule qualified_path ts)) ≡ of_qualified lt ty (and_then (wrap Left (parse_form trait_form n)) (parse_form after_trait_form))
   with_trait h = ap (λ o. wrap Node (wrap Left o)) (qualified_path_is ts ∙ rw a (rw b (rw h refl)))
 
-  pub without_trait : sees (at_word w_as) n ≡ false → wrap Node (wrap Left (parse_rule qualified_path ts)) ≡ of_qualified lt ty (and_then (Some (Right (Unshown Nothing), n)) (parse_form behind_trait_form))
+  pub without_trait : sees (at_word w_as) n ≡ false → wrap Node (wrap Left (parse_rule qualified_path ts)) ≡ of_qualified lt ty (and_then (Some (Right (Unshown Nothing), n)) (parse_form after_trait_form))
   without_trait h = ap (λ o. wrap Node (wrap Left o)) (qualified_path_is ts ∙ rw a (rw b (rw h refl)))
 
 -- `as`, the trait's path, `>`, `::` and words
 pub trait_read : (ts m₁ m₂ m₃ m₄ m₅ m₆ : Stream) (as_token leading first gt colons others : Syntax) →
     take_token (word w_as) ts ≡ Some (as_token, m₁) → branch (sees at_colons m₁) (take_mark double m₁) (Some (Nothing, m₁)) ≡ Some (leading, m₂) →
     parse_rule type_words m₂ ≡ Some (first, m₃) → take_mark greater m₃ ≡ Some (gt, m₄) → take_mark double m₄ ≡ Some (colons, m₅) → parse_rule type_words m₅ ≡ Some (others, m₆) →
-    and_then (wrap Left (parse_form trait_form ts)) (parse_form behind_trait_form) ≡ Some (Both (Left (Both as_token (Node (Both leading first)))) (Both gt (Both colons others)), m₆)
+    and_then (wrap Left (parse_form trait_form ts)) (parse_form after_trait_form) ≡ Some (Both (Left (Both as_token (Node (Both leading first)))) (Both gt (Both colons others)), m₆)
 trait_read ts m₁ m₂ m₃ m₄ m₅ m₆ as_token leading first gt colons others a b c d e f =
-    rw a (ap (λ o. and_then (wrap Left (wrap (Both as_token) o)) (parse_form behind_trait_form)) path ∙ rw d (rw e (rw f refl)))
+    rw a (ap (λ o. and_then (wrap Left (wrap (Both as_token) o)) (parse_form after_trait_form)) path ∙ rw d (rw e (rw f refl)))
   where
     path : parse_rule type_path m₁ ≡ Some (Node (Both leading first), m₃)
     path = type_path_is m₁ ∙ rw b (rw c refl)

@@ -1,4 +1,4 @@
--- Qualified paths are the same where what they hold is: what a value stands for commutes with forgetting spans, and tells the value.
+-- Qualified paths are the same where what they hold is: what a value represents commutes with forgetting spans, and determines the value.
 use Rattle.std.proofs.Common.{◌≡◌, ℕ, zero, suc, ◌+◌, Bool, true, false, List, [], ◌∷◌, Option, Some, None, refl, sym, ap, ap₂, ◌∙◌, arith}
 use Rattle.syn_grammar.specs.Tokens.{and}
 use Rattle.syn_grammar.specs.Grammar.{Syntax, Nothing, Mark, Both, Left, Right, Node, Unshown, plain_syntax}
@@ -9,7 +9,7 @@ use Rattle.syn_tokens.specs.Listing.{joined_of}
 use Rattle.syn_lower.specs.Types.{syntax_of_Type}
 use Rattle.syn_lower.specs.Paths.{view_QSelf}
 use Rattle.syn_lower.specs.Plain.{view_Path}
-use Rattle.syn_lower.specs.QualifiedPaths.{count, surplus, part, words_in, separator_behind, words_behind, qualified, with_qself, syntax_of_TypePath}
+use Rattle.syn_lower.specs.QualifiedPaths.{count, surplus, part, words_in, separator_after, words_after, qualified, with_qself, syntax_of_TypePath}
 use Rattle.syn_lower.specs.declared.path.Path.TheInside as Path-in
 use Rattle.syn_lower.specs.declared.path.QSelf.TheInside as QSelf-in
 use Rattle.syn_lower.proofs.Compared.{told}
@@ -35,7 +35,7 @@ module _ {T P : Type 0} (v : T → Syntax) (w : P → Syntax) where
   plain_in (suc n) (x ∷ []) (Some t) = ap (λ s. Node (Both (plain_syntax (v x.0)) (Left (Both (plain_syntax (w x.1)) s)))) (plain_in n [] (Some t))
   plain_in (suc n) (x ∷ y ∷ l) o = ap (λ s. Node (Both (plain_syntax (v x.0)) (Left (Both (plain_syntax (w x.1)) s)))) (plain_in n (y ∷ l) o)
 
-  plain_separator : (n : ℕ) (l : List (T × P)) (o : Option T) → plain_syntax (separator_behind n (joined_of v w l o)) ≡ separator_behind n (plain_words l o)
+  plain_separator : (n : ℕ) (l : List (T × P)) (o : Option T) → plain_syntax (separator_after n (joined_of v w l o)) ≡ separator_after n (plain_words l o)
   plain_separator zero [] None = refl
   plain_separator (suc n) [] None = refl
   plain_separator zero [] (Some t) = refl
@@ -45,7 +45,7 @@ module _ {T P : Type 0} (v : T → Syntax) (w : P → Syntax) where
   plain_separator (suc n) (x ∷ []) (Some t) = plain_separator n [] (Some t)
   plain_separator (suc n) (x ∷ y ∷ l) o = plain_separator n (y ∷ l) o
 
-  plain_behind : (n : ℕ) (l : List (T × P)) (o : Option T) → plain_syntax (words_behind n (joined_of v w l o)) ≡ words_behind n (plain_words l o)
+  plain_behind : (n : ℕ) (l : List (T × P)) (o : Option T) → plain_syntax (words_after n (joined_of v w l o)) ≡ words_after n (plain_words l o)
   plain_behind zero [] None = refl
   plain_behind (suc n) [] None = refl
   plain_behind zero [] (Some t) = refl
@@ -61,8 +61,8 @@ module _ {T P : Type 0} (v : T → Syntax) (w : P → Syntax) where
     none_inside s t e = ap₂ (λ x y. Both (Right (Unshown x)) (Both (plain_syntax g) y)) as_part (ap₂ Both mark_part e)
 
     some_inside : (n : ℕ) (l : List (T × P)) (o : Option T) →
-        plain_syntax (Both (Left (Both (part a) (Node (Both c (words_in n (joined_of v w l o)))))) (Both g (Both (separator_behind n (joined_of v w l o)) (words_behind n (joined_of v w l o)))))
-        ≡ Both (Left (Both (part (plain_syntax a)) (Node (Both (plain_syntax c) (words_in n (plain_words l o)))))) (Both (plain_syntax g) (Both (separator_behind n (plain_words l o)) (words_behind n (plain_words l o))))
+        plain_syntax (Both (Left (Both (part a) (Node (Both c (words_in n (joined_of v w l o)))))) (Both g (Both (separator_after n (joined_of v w l o)) (words_after n (joined_of v w l o)))))
+        ≡ Both (Left (Both (part (plain_syntax a)) (Node (Both (plain_syntax c) (words_in n (plain_words l o)))))) (Both (plain_syntax g) (Both (separator_after n (plain_words l o)) (words_after n (plain_words l o))))
     some_inside n l o =
         ap₂ (λ x y. Both x (Both (plain_syntax g) y)) (ap₂ (λ x y. Left (Both x (Node (Both (plain_syntax c) y)))) as_part (plain_in n l o)) (ap₂ Both (plain_separator n l o) (plain_behind n l o))
 
@@ -141,26 +141,26 @@ module _ {T P : Type 0} (v : T → Syntax) (w : P → Syntax) (marks : (p : P) (
   unstripped (x ∷ l) o = refl
 
   -- there is a word
-  numbers_last : (n : ℕ) (t : T) → number_of (words_in n (joined_of v w [] (Some t))) + surplus_of (words_behind n (joined_of v w [] (Some t))) ≡ n
+  numbers_last : (n : ℕ) (t : T) → number_of (words_in n (joined_of v w [] (Some t))) + surplus_of (words_after n (joined_of v w [] (Some t))) ≡ n
   unfolding number_of surplus_of
   numbers_last zero t = refl
   numbers_last (suc n) t = zero_plus (suc n)
 
-  numbers : (n : ℕ) (x : T × P) (l : List (T × P)) (o : Option T) → number_of (words_in n (joined_of v w (x ∷ l) o)) + surplus_of (words_behind n (joined_of v w (x ∷ l) o)) ≡ n
+  numbers : (n : ℕ) (x : T × P) (l : List (T × P)) (o : Option T) → number_of (words_in n (joined_of v w (x ∷ l) o)) + surplus_of (words_after n (joined_of v w (x ∷ l) o)) ≡ n
   unfolding number_of surplus_of
   numbers zero x l o = zero_plus (surplus_of (joined_of v w l o)) ∙ no_surplus l o
   numbers (suc n) x [] None = zero_plus (suc n)
   numbers (suc n) x [] (Some t) =
-      suc_plus (number_of (words_in n (joined_of v w [] (Some t)))) (surplus_of (words_behind n (joined_of v w [] (Some t)))) ∙ ap suc (numbers_last n t)
+      suc_plus (number_of (words_in n (joined_of v w [] (Some t)))) (surplus_of (words_after n (joined_of v w [] (Some t)))) ∙ ap suc (numbers_last n t)
   numbers (suc n) x (y ∷ l) o =
-      suc_plus (number_of (words_in n (joined_of v w (y ∷ l) o))) (surplus_of (words_behind n (joined_of v w (y ∷ l) o))) ∙ ap suc (numbers n y l o)
+      suc_plus (number_of (words_in n (joined_of v w (y ∷ l) o))) (surplus_of (words_after n (joined_of v w (y ∷ l) o))) ∙ ap suc (numbers n y l o)
 
-  joins_last : (n : ℕ) (t : T) → join (words_in n (joined_of v w [] (Some t))) (separator_behind n (joined_of v w [] (Some t))) (words_behind n (joined_of v w [] (Some t))) ≡ joined_of v w [] (Some t)
+  joins_last : (n : ℕ) (t : T) → join (words_in n (joined_of v w [] (Some t))) (separator_after n (joined_of v w [] (Some t))) (words_after n (joined_of v w [] (Some t))) ≡ joined_of v w [] (Some t)
   unfolding join tail_of
   joins_last zero t = refl
   joins_last (suc n) t = refl
 
-  joins : (n : ℕ) (x : T × P) (l : List (T × P)) (o : Option T) → join (words_in n (joined_of v w (x ∷ l) o)) (separator_behind n (joined_of v w (x ∷ l) o)) (words_behind n (joined_of v w (x ∷ l) o)) ≡ joined_of v w (x ∷ l) o
+  joins : (n : ℕ) (x : T × P) (l : List (T × P)) (o : Option T) → join (words_in n (joined_of v w (x ∷ l) o)) (separator_after n (joined_of v w (x ∷ l) o)) (words_after n (joined_of v w (x ∷ l) o)) ≡ joined_of v w (x ∷ l) o
   unfolding join
   joins zero x l o = ap (λ s. Node (Both (v x.0) s)) (marks x.1 _ ∙ ap (λ s. Left (Both (w x.1) s)) (unstripped l o))
   joins (suc n) x [] None = ap (λ s. Node (Both (v x.0) s)) (marks x.1 _ ∙ ap (λ s. Left (Both (w x.1) s)) (strip_surplus (suc n)))
@@ -172,8 +172,8 @@ module _ {T P : Type 0} (v : T → Syntax) (w : P → Syntax) (marks : (p : P) (
     unfolding rebuilt
     back zero l o = ap₂ (λ x y. held lt ty x y g (optional (part c)) (strip (joined_of v w l o))) (no_surplus l o) as_back ∙ ap₂ (λ y z. held lt ty 0 a g y z) mark_back (unstripped l o)
     back (suc n) [] None = ap₂ (λ x y. held lt ty x y g (optional (part c)) (strip (surplus (suc n)))) (surplus_back (suc n)) as_back ∙ ap₂ (λ y z. held lt ty (suc n) a g y z) mark_back (strip_surplus (suc n))
-    back (suc n) [] (Some t) = ap₂ (λ x y. held lt ty (suc x) y g c (join (words_in n (joined_of v w [] (Some t))) (separator_behind n (joined_of v w [] (Some t))) (words_behind n (joined_of v w [] (Some t))))) (numbers_last n t) as_back ∙ ap (held lt ty (suc n) a g c) (joins_last n t)
-    back (suc n) (x ∷ l) o = ap₂ (λ y z. held lt ty (suc y) z g c (join (words_in n (joined_of v w (x ∷ l) o)) (separator_behind n (joined_of v w (x ∷ l) o)) (words_behind n (joined_of v w (x ∷ l) o)))) (numbers n x l o) as_back ∙ ap (held lt ty (suc n) a g c) (joins n x l o)
+    back (suc n) [] (Some t) = ap₂ (λ x y. held lt ty (suc x) y g c (join (words_in n (joined_of v w [] (Some t))) (separator_after n (joined_of v w [] (Some t))) (words_after n (joined_of v w [] (Some t))))) (numbers_last n t) as_back ∙ ap (held lt ty (suc n) a g c) (joins_last n t)
+    back (suc n) (x ∷ l) o = ap₂ (λ y z. held lt ty (suc y) z g c (join (words_in n (joined_of v w (x ∷ l) o)) (separator_after n (joined_of v w (x ∷ l) o)) (words_after n (joined_of v w (x ∷ l) o)))) (numbers n x l o) as_back ∙ ap (held lt ty (suc n) a g c) (joins n x l o)
 
 -- AT THE VIEWS
 
@@ -208,9 +208,9 @@ plain_form a p =
     (plain_qualified (λ s. s) path_sep_syntax (maybe as_syntax a.as_token) (gt_syntax a.gt_token) (maybe path_sep_syntax p.leading_colon) (as_plain a.as_token) (mark_plain p.leading_colon) a.position p.segments.pairs p.segments.last
     ∙ ap (qualified a.position (plain_syntax (maybe as_syntax a.as_token)) (plain_syntax (gt_syntax a.gt_token)) (plain_syntax (maybe path_sep_syntax p.leading_colon))) (sym (plain_joined (λ s. s) path_sep_syntax p.segments.pairs p.segments.last)))
 
-told_form : (a : QSelf-in.Inside) (p : Path-in.Inside) → parts (plain_syntax (form a p)) ≡ plain_syntax (with_qself (view_QSelf a) (view_Path p))
+known_form : (a : QSelf-in.Inside) (p : Path-in.Inside) → parts (plain_syntax (form a p)) ≡ plain_syntax (with_qself (view_QSelf a) (view_Path p))
 unfolding parts
-told_form a p =
+known_form a p =
     ap (rebuilt (plain_syntax (lt_syntax a.lt_token)) (plain_syntax (syntax_of_Type a.ty.value)))
     (plain_qualified (λ s. s) path_sep_syntax (maybe as_syntax a.as_token) (gt_syntax a.gt_token) (maybe path_sep_syntax p.leading_colon) (as_plain a.as_token) (mark_plain p.leading_colon) a.position p.segments.pairs p.segments.last)
     ∙ back (λ s. plain_syntax s) (λ c. plain_syntax (path_sep_syntax c)) marks_tail _ _ _ (plain_syntax (gt_syntax a.gt_token)) _ (as_optional a.as_token) (mark_optional p.leading_colon) a.position p.segments.pairs p.segments.last
@@ -220,7 +220,7 @@ told_form a p =
 same_qualified_paths : (a b : QSelf-in.Inside) (p q : Path-in.Inside) →
     same_syntax (syntax_of_TypePath (with_qself (view_QSelf a) (view_Path p))) (syntax_of_TypePath (with_qself (view_QSelf b) (view_Path q)))
     ≡ and (same_syntax (view_QSelf a) (view_QSelf b)) (same_syntax (view_Path p) (view_Path q))
-same_qualified_paths a b p q = told syntax_of_TypePath parts (form a p) (form b q) (with_qself (view_QSelf a) (view_Path p)) (with_qself (view_QSelf b) (view_Path q)) (plain_form a p) (plain_form b q) (told_form a p) (told_form b q)
+same_qualified_paths a b p q = told syntax_of_TypePath parts (form a p) (form b q) (with_qself (view_QSelf a) (view_Path p)) (with_qself (view_QSelf b) (view_Path q)) (plain_form a p) (plain_form b q) (known_form a p) (known_form b q)
 
 pub same_qualified_values : (a b : QSelf-in.Inside) (p q : Path-in.Inside) (s t u v : Syntax) → view_QSelf a ≡ s → view_QSelf b ≡ t → view_Path p ≡ u → view_Path q ≡ v →
     same_syntax (syntax_of_TypePath (with_qself s u)) (syntax_of_TypePath (with_qself t v)) ≡ and (same_syntax s t) (same_syntax u v)

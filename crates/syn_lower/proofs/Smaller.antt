@@ -1,4 +1,4 @@
--- What stands in a list is smaller than the list.
+-- What is in a list is smaller than the list.
 use Rattle.std.proofs.Common.{◌≡◌, ℕ, zero, suc, ◌+◌, ◌<◌, ◌≤◌, Bool, List, [], ◌∷◌, length, get_or, Option, Some, None, ap, arith}
 use Rattle.syn_grammar.specs.Grammar.{Syntax, Nothing, Mark, Both, Left, Right, Node, Unshown}
 use Rattle.syn_tokens.specs.Listing.{list_of, joined_of}

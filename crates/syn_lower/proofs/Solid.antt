@@ -110,8 +110,8 @@ module _ (k e : Rule) (stop next : Condition) (separator : Form) (is : IsList k 
           let q : bare x.0.0 ≡ false = rule_never_bare n e shows_some ts x.0 x.2 in
           rw p (solid_some x.0.0 x.1.0 q)
 
-  -- so an answer's list is solid
-  pub answers_solid : {T P E : Type 0} (refusal : E → Type 0) (v : T → Syntax) (w : P → Syntax) (ts : Stream) (result : Result (Sequence T P) E) (new : Stream) →
+  -- so the list of a result is solid
+  pub results_solid : {T P E : Type 0} (refusal : E → Type 0) (v : T → Syntax) (w : P → Syntax) (ts : Stream) (result : Result (Sequence T P) E) (new : Stream) →
       Computes refusal (λ l. list_of v w l.pairs l.last) (parse_rule k ts) result new → Computes refusal (λ l. solid (list_of v w l.pairs l.last)) (parse_rule k ts) result new
-  answers_solid refusal v w ts (Ok l) new h = h ∙ ap (λ s. Some (s, new)) (sym (list_solid ts (list_of v w l.pairs l.last) new h))
-  answers_solid refusal v w ts (Err e) new h = h
+  results_solid refusal v w ts (Ok l) new h = h ∙ ap (λ s. Some (s, new)) (sym (list_solid ts (list_of v w l.pairs l.last) new h))
+  results_solid refusal v w ts (Err e) new h = h

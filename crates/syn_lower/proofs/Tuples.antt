@@ -1,4 +1,4 @@
--- The types of a tuple: where they aren't one without a comma, they are printed as they stand.
+-- The types of a tuple: unless it is one type without a comma, they are printed as they are.
 use Rattle.std.proofs.Common.{◌≡◌, ◌≢◌, ◌⊎◌, inl, inr, List, [], ◌∷◌, Option, Some, None, refl}
 use Rattle.syn_tokens.specs.Kinds.{Comma, comma_syntax}
 use Rattle.syn_tokens.specs.Listing.{list_of}

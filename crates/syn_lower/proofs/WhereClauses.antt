@@ -1,4 +1,4 @@
--- A where clause where it stands next, and where it doesn't.
+-- A where clause if it is next, and none if it isn't.
 use Rattle.std.proofs.Common.{◌≡◌, Bool, true, false, Some, None, refl, ap, ◌∙◌}
 use Rattle.syn_grammar.specs.Words.{w_where}
 use Rattle.syn_grammar.specs.Tokens.{Stream, at_word}

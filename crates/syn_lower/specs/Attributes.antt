@@ -1,4 +1,4 @@
--- WHAT SYNTAX ATTRIBUTES STAND FOR, one level at a time, every field.
+-- THE SYNTAX OF ATTRIBUTES, one level at a time, every field.
 use Rattle.std.specs.Prelude.{Bool, true, false, List, [], ◌∷◌}
 use Rattle.syn_grammar.specs.Tokens.{Stream, end, ◌⧺◌, Paren, Brace, Bracket, and, no, pick, at_word}
 use Rattle.syn_grammar.specs.Words.{w_unsafe, pound, exclamation}
@@ -44,11 +44,11 @@ abbrev pub syntax_of_MetaList : MetaList → Syntax
 syntax_of_MetaList m = meta_of m.path (filled m.tokens (syntax_of_MacroDelimiter m.delimiter))
 
 -- `=`, and all that is left
-abbrev pub behind_equals : Syntax → Stream → Syntax
-behind_equals sign tokens = Right (Right (Right (Left (Rest (marks_of sign) tokens))))
+abbrev pub after_equals : Syntax → Stream → Syntax
+after_equals sign tokens = Right (Right (Right (Left (Rest (marks_of sign) tokens))))
 
 abbrev pub syntax_of_MetaNameValue : MetaNameValue → Syntax
-syntax_of_MetaNameValue m = meta_of m.path (behind_equals (eq_syntax m.eq_token) m.value)
+syntax_of_MetaNameValue m = meta_of m.path (after_equals (eq_syntax m.eq_token) m.value)
 
 abbrev pub syntax_of_Meta : Meta-m.the_data → Syntax
 syntax_of_Meta (Meta-m.Path p) = meta_of p no_value
@@ -61,7 +61,7 @@ abbrev pub syntax_of_AttrStyle : AttrStyle-m.the_data → Syntax
 syntax_of_AttrStyle AttrStyle-m.Outer = Right Nothing
 syntax_of_AttrStyle (AttrStyle-m.Inner bang) = Left (not_syntax bang)
 
--- what stands behind `#`: of an inner attribute `!`, and of each a group in brackets
+-- what follows `#`: of an inner attribute `!`, and of each a group in brackets
 abbrev pub behind_pound : Syntax → Syntax → Syntax
 behind_pound (Left bang) brackets = Both bang brackets
 behind_pound _ brackets = brackets
@@ -69,13 +69,13 @@ behind_pound _ brackets = brackets
 abbrev pub syntax_of_Attribute : Attribute → Syntax
 syntax_of_Attribute a = Both (pound_syntax a.pound_token) (behind_pound (syntax_of_AttrStyle a.style) (group_syntax Bracket a.bracket_token (syntax_of_Meta a.meta)))
 
--- ATTRIBUTES IN ORDER: those that are printed there; and, where others stand among them, all once more, unshown
+-- ATTRIBUTES IN ORDER: those that are printed there; and, if others are among them, all once more, unshown
 
 abbrev pub is_group : Syntax → Bool
 is_group (Group d o c s) = true
 is_group _ = false
 
--- behind the `#` of an outer attribute stands its group
+-- the group of an outer attribute follows its `#`
 abbrev pub is_outer : Syntax → Bool
 is_outer a = is_group (second a)
 

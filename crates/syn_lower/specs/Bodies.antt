@@ -1,5 +1,5 @@
--- THE ATTRIBUTES OF WHAT HAS A BODY: a value holds the outer ones, which stand before it, and the inner ones, which stand in its braces,
--- in one list. Where they don't stand in that order, the list stands once more, unshown.
+-- THE ATTRIBUTES OF WHAT HAS A BODY: a value holds the outer ones, which are before it, and the inner ones, which are in its braces,
+-- in one list. If they aren't in that order, the list is repeated, unshown.
 use Rattle.std.specs.Prelude.{Bool, true, List, [], ◌∷◌}
 use Rattle.syn_grammar.specs.Tokens.{Stream, end, ◌⧺◌, pick}
 use Rattle.syn_grammar.specs.Grammar.{Syntax, Nothing, Both, Node, Group, print}
@@ -7,7 +7,7 @@ use Rattle.syn_tokens.specs.InOrder.{in_order}
 use Rattle.syn_lower.specs.Attributes.{every, is_inner, is_outer, shown_before, syntax_of_Attribute}
 use Rattle.syn_lower.specs.declared.attr.Attribute.{Attribute}
 
--- the inner ones stand behind the outer ones
+-- the inner ones follow the outer ones
 abbrev pub outer_first : Syntax → Bool
 outer_first (Both a l) = pick (is_outer a) (outer_first l) (every is_inner (Both a l))
 outer_first _ = true

@@ -1,4 +1,4 @@
--- WHAT SYNTAX BOUNDS STAND FOR, one level at a time, every field.
+-- THE SYNTAX OF BOUNDS, one level at a time, every field.
 use Rattle.std.specs.Prelude.{[], Option, Some, None}
 use Rattle.syn_grammar.specs.Words.{colon}
 use Rattle.syn_grammar.specs.Tokens.{Paren, pick}
@@ -16,7 +16,7 @@ use Rattle.syn_lower.specs.declared.bounds.TraitBoundModifier.TheVariants as Tra
 
 -- LISTS OF BOUNDS
 
--- a list that goes on where one of its members stands next, and not up to what ends it: the sides of its choice are the other way
+-- a list that continues where one of its members is next, and not up to what ends it: the sides of its choice are the other way
 -- round
 abbrev pub turned : Syntax → Syntax
 turned (Node (Left Nothing)) = Node (Right Nothing)
@@ -24,7 +24,7 @@ turned (Node (Right (Both s (Right Nothing)))) = Node (Left (Both s (Right Nothi
 turned (Node (Right (Both s (Left (Both separator l))))) = Node (Left (Both s (Left (Both separator (turned l)))))
 turned s = s
 
--- A list that is printed with what stands before it wherever it has a member, also where its members show nothing, as only paths
+-- A list that is printed with what is before it wherever it has a member, also where its members show nothing, as only paths
 -- without words do.
 unfoldable pub solid : Syntax → Syntax
 solid (Node (Left Nothing)) = Node (Left Nothing)
@@ -61,7 +61,7 @@ abbrev pub syntax_of_TypeParamBound : TypeParamBound-m.the_data → Syntax
 syntax_of_TypeParamBound (TypeParamBound-m.Lifetime l) = Node (Left (syntax_of_lifetime l))
 syntax_of_TypeParamBound (TypeParamBound-m.Trait t) = Node (Right t)
 
--- of a bound in parentheses or not, what stands inside
+-- of a bound in parentheses or not, what is inside
 abbrev pub inner : Syntax → Syntax
 inner (Left (Group d o c s)) = s
 inner (Right s) = s

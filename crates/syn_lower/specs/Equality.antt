@@ -1,4 +1,4 @@
--- WHAT `==` OF A TREE ANSWERS, whatever its type: true exactly where the trees are equal once every span is 0 to 0.
+-- THE RESULT OF `==` ON TREES, of every type: true exactly where the trees are equal once every span is 0 to 0.
 use Rattle.std.specs.Prelude.{◌≡◌, ◌↔◌, Bool, IsTrue}
 use Rattle.syn_grammar.specs.Tokens.{plain}
 use Rattle.syn_grammar.specs.Grammar.{Syntax, plain_syntax, print}

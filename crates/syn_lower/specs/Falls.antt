@@ -8,7 +8,7 @@ use Rattle.syn_tokens.specs.Kinds.{Comma, comma_syntax, path_sep_syntax}
 use Rattle.syn_tokens.specs.Listing.{list_of}
 use Rattle.syn_lower.specs.Sizes.{tree_size, above, above_falls, split_last, weight_last, maybe_falls, list_falls, joined_falls}
 use Rattle.syn_lower.specs.Ordered.{ordered_of}
-use Rattle.syn_lower.specs.QualifiedPaths.{part, words_in, separator_behind, words_behind, qualified, syntax_of_TypePath}
+use Rattle.syn_lower.specs.QualifiedPaths.{part, words_in, separator_after, words_after, qualified, syntax_of_TypePath}
 use Rattle.syn_lower.specs.Types.{syntax_of_Type, tuple_elements, view_TypeArray, view_TypeGroup, view_TypeParen, view_TypePath, view_TypePtr, view_TypeReference, view_TypeSlice, view_TypeTuple}
 use Rattle.syn_lower.specs.Paths.{syntax_of_PathArguments, syntax_of_GenericArgument, syntax_of_ReturnType, is_lifetime, view_PathSegment, view_AngleBracketedGenericArguments, view_ParenthesizedGenericArguments, view_AssocType, view_QSelf}
 use Rattle.syn_lower.specs.Plain.{view_Path}
@@ -32,14 +32,14 @@ use Rattle.syn_lower.specs.declared.ty.TypeReference.TheInside as TypeReference-
 use Rattle.syn_lower.specs.declared.ty.TypeSlice.TheInside as TypeSlice-in
 use Rattle.syn_lower.specs.declared.ty.TypeTuple.TheInside as TypeTuple-in
 
--- QUALIFIED PATHS: nothing that a value holds is lost in what it stands for
+-- QUALIFIED PATHS: nothing that a value holds is lost in what it represents
 
 part_size : (s : Syntax) → tree_size s ≤ tree_size (part s) + 1
 part_size (Left s) = omega arith
 part_size (Right s) = omega arith
 part_size s = omega arith
 
-words_size : (n : ℕ) (s : Syntax) → tree_size s ≤ tree_size (words_in n s) + tree_size (separator_behind n s) + tree_size (words_behind n s)
+words_size : (n : ℕ) (s : Syntax) → tree_size s ≤ tree_size (words_in n s) + tree_size (separator_after n s) + tree_size (words_after n s)
 words_size zero (Node (Both s (Left (Both colons l)))) = omega arith
 words_size (suc n) (Node (Both s (Left (Both colons Nothing)))) = omega arith
 words_size (suc n) (Node (Both s (Left (Both colons l)))) = omega (arith, words_size n l)

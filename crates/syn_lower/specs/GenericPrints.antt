@@ -10,7 +10,7 @@ use Rattle.syn_tokens.specs.Listing.{list_of}
 use Rattle.syn_lower.specs.Generics.{syntax_of_GenericParam}
 use Rattle.syn_lower.specs.declared.generics.GenericParam.TheVariants as GenericParam-m
 
--- what stands before a list, and the list; nothing, where the list is empty
+-- what is before a list, and the list; nothing, where the list is empty
 abbrev pub printed_with : {T P : Type 0} → Syntax → (T → Syntax) → (P → Syntax) → List (T × P) → Option T → Stream
 printed_with head v w [] None = end
 printed_with head v w l o = print head ⧺ print (list_of v w l o)
@@ -22,7 +22,7 @@ is_lifetime (GenericParam-m.Lifetime p) = true
 is_lifetime (GenericParam-m.Ty p) = false
 is_lifetime (GenericParam-m.Const p) = false
 
--- a comma, where that one stands
+-- a comma, if that one is there
 abbrev pub comma_at : Comma → Stream
 comma_at comma = punct 44 false (span_of (comma_syntax comma)) end
 
@@ -44,14 +44,14 @@ abbrev pub has_others : List (GenericParam-m.the_data × Comma) → Bool
 has_others [] = false
 has_others (x ∷ l) = or (no (is_lifetime x.0)) (has_others l)
 
--- what is printed behind a lifetime that stands last
-abbrev pub behind_last : List (GenericParam-m.the_data × Comma) → Stream
-behind_last l = pick (has_others l) added_comma end
+-- what is printed after a lifetime that is last
+abbrev pub after_last : List (GenericParam-m.the_data × Comma) → Stream
+after_last l = pick (has_others l) added_comma end
 
 -- all of them
 abbrev pub params_part : List (GenericParam-m.the_data × Comma) → Option GenericParam-m.the_data → Stream
 params_part l None = pairs_part true l ⧺ pairs_part false l
-params_part l (Some p) = pairs_part true l ⧺ (param_part true p (behind_last l) ⧺ (pairs_part false l ⧺ param_part false p end))
+params_part l (Some p) = pairs_part true l ⧺ (param_part true p (after_last l) ⧺ (pairs_part false l ⧺ param_part false p end))
 
 -- `<`, parameters and `>`, where there are some
 abbrev pub generics_part : Option Lt → List (GenericParam-m.the_data × Comma) → Option GenericParam-m.the_data → Option Gt → Stream

@@ -1,4 +1,4 @@
--- WHAT SYNTAX GENERICS STAND FOR, one level at a time, every field.
+-- THE SYNTAX OF GENERICS, one level at a time, every field.
 use Rattle.std.specs.Prelude.{◌≡◌, ℕ, Bool, true, false, List, [], ◌∷◌, Option, Some, None}
 use Rattle.syn_grammar.specs.Tokens.{Span}
 use Rattle.syn_grammar.specs.Grammar.{Syntax, Nothing, Both, Left, Right, Node, Vanishing, Unshown, Done, Order}
@@ -56,7 +56,7 @@ syntax_of_GenericParam (GenericParam-m.Lifetime p) = Left p
 syntax_of_GenericParam (GenericParam-m.Ty p) = Right p
 syntax_of_GenericParam (GenericParam-m.Const p) = Right p
 
--- a parameter, without the comma behind it
+-- a parameter, without the comma after it
 abbrev pub param_of : GenericParam-m.the_data × Comma → Syntax
 param_of x = syntax_of_GenericParam x.0
 
@@ -83,12 +83,12 @@ abbrev pub stands : {X : Type 0} → Option X → Bool
 stands None = false
 stands (Some x) = true
 
--- a sign that stands is written
-abbrev pub LtStands : Option Lt → Type 0
-LtStands lt_token = is_written (sign_of (maybe lt_syntax lt_token)) ≡ stands lt_token
+-- a sign that is there is written
+abbrev pub LtPresent : Option Lt → Type 0
+LtPresent lt_token = is_written (sign_of (maybe lt_syntax lt_token)) ≡ stands lt_token
 
-abbrev pub GtStands : Option Gt → Type 0
-GtStands gt_token = is_written (sign_of (maybe gt_syntax gt_token)) ≡ stands gt_token
+abbrev pub GtPresent : Option Gt → Type 0
+GtPresent gt_token = is_written (sign_of (maybe gt_syntax gt_token)) ≡ stands gt_token
 
 abbrev pub no_parameters : Syntax
 no_parameters = Node (Vanishing false (Right Nothing))
@@ -107,7 +107,7 @@ abbrev pub view_Generics : Generics-in.Inside → Syntax
 view_Generics a =
     Both (parameters_of (maybe lt_syntax a.lt_token) (list_of syntax_of_GenericParam comma_syntax a.params.pairs a.params.last) (maybe gt_syntax a.gt_token)) (clause_aside (maybe itself a.where_clause))
 
--- THE WHERE CLAUSE OF AN ITEM, which stands apart from its generics
+-- THE WHERE CLAUSE OF AN ITEM, which is separate from its generics
 
 abbrev pub no_clause : Syntax
 no_clause = Node (Vanishing false (Right Nothing))

@@ -1,4 +1,4 @@
--- WHAT SYNTAX LITERALS STAND FOR: `true`, `false`, or a token.
+-- THE SYNTAX OF LITERALS: `true`, `false`, or a token.
 use Rattle.syn_grammar.specs.Words.{w_true, w_false}
 use Rattle.syn_grammar.specs.Tokens.{pick, at_word}
 use Rattle.syn_grammar.specs.Grammar.{Grammar, word, any_literal, when◌then◌else◌, Syntax, Left, Right}

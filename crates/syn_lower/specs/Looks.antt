@@ -5,16 +5,16 @@ use Rattle.syn_grammar.specs.Tokens.{Stream, or, and, ended, at_word}
 use Rattle.syn_grammar.specs.Take.{sees}
 use Rattle.syn_parse.specs.Peeks.{past}
 
--- `crate`, `self` or `super` stands alone
+-- `crate`, `self` or `super` alone
 abbrev pub lone_word : Stream → Bool
 lone_word i = and (or (sees (at_word w_crate) i) (or (sees (at_word w_self) i) (sees (at_word w_super) i))) (sees ended (past i))
 
--- of what an invisible group holds, where one stands next: nothing
+-- of what an invisible group holds, where one is next: nothing
 abbrev pub holds_nothing : Option Stream → Bool
 holds_nothing (Some i) = sees ended i
 holds_nothing None = false
 
--- of what a group in parentheses holds, where one stands next
+-- of what a group in parentheses holds, where one is next
 abbrev pub restricts : Option Stream → Bool
 restricts (Some i) = or (sees (at_word w_in) i) (lone_word i)
 restricts None = false

@@ -1,4 +1,4 @@
--- WHAT THE MEMBER OF A STRUCT STANDS FOR: the name of a field, or a literal of the decimal digits of its place.
+-- THE SYNTAX OF A STRUCT'S MEMBER: the name of a field, or a literal of the decimal digits of its place.
 use Rattle.std.specs.Prelude.{decimal}
 use Rattle.syn_grammar.specs.Tokens.{Int, literal}
 use Rattle.syn_grammar.specs.Grammar.{Syntax, Token, Left, Right}

@@ -12,13 +12,13 @@ sorted_print l = show (sort (renew l))
 abbrev pub comma_at : Span → Stream
 comma_at sp = punct 44 false sp end
 
--- a member alone, if it is wanted
+-- a member alone, if it is needed
 unfoldable pub last_part : {T : Type 0} → (Syntax → Bool) → (T → Syntax) → Bool → Option T → Stream
 last_part is_first view b None = end
 last_part is_first view b (Some t) = pick (same_bool b (is_first (view t))) (print (view t)) end
 
 module _ {T P : Type 0} (is_first : Syntax → Bool) (view : T → Syntax) (comma_view : P → Syntax) where
-  -- a member with its comma, if it is wanted
+  -- a member with its comma, if it is needed
   unfoldable pub pair_part : Bool → T × P → Stream
   pair_part b x = pick (same_bool b (is_first (view x.0))) (print (view x.0) ⧺ comma_at (place_of (comma_view x.1))) end
 
@@ -27,7 +27,7 @@ module _ {T P : Type 0} (is_first : Syntax → Bool) (view : T → Syntax) (comm
   part_row b [] o = last_part is_first view b o
   part_row b (x ∷ l) o = pair_part b x ⧺ part_row b l o
 
-  -- the comma behind a member that is no longer the last
+  -- the comma after a member that is no longer the last
   abbrev pub comma_between : List (T × P) → Option T → Stream
   comma_between l None = end
   comma_between l (Some t) = pick (and (is_first (view t)) (list_any (λ x. not (is_first (view x.0))) l)) (comma_at call_site) end

@@ -9,14 +9,14 @@ use Rattle.syn_grammar.specs.Table.{at_colon, at_equals, parameter}
 use Rattle.syn_grammar.specs.Take.{Out, Parser}
 use Rattle.syn_grammar.specs.Run.{parse_form, rows, union, wrap}
 
--- a colon and lifetimes, where a colon stands next; a colon and bounds
+-- a colon and lifetimes, where a colon is next; a colon and bounds
 abbrev pub lifetime_bounds_form : Grammar
 lifetime_bounds_form = vanishing false at_colon (punctuation colon & rule lifetimes)
 
 abbrev pub bounds_form : Grammar
 bounds_form = vanishing false at_colon (punctuation colon & rule parameter_bounds)
 
--- what stands behind the attributes of each parameter
+-- what follows the attributes of each parameter
 abbrev pub lifetime_form : Grammar
 lifetime_form = lifetime & lifetime_bounds_form
 
@@ -26,17 +26,17 @@ const_form = plainly (word w_const) & plainly name & punctuation colon & rule ty
 abbrev pub type_form : Grammar
 type_form = plainly name & bounds_form & (when at_equals then punctuation equals & rule type else empty)
 
--- a parameter, behind these attributes
-unfoldable pub lifetime_behind : Syntax → Parser
-lifetime_behind attrs ts = wrap (λ s. Node (Both attrs s)) (parse_form lifetime_form ts)
+-- a parameter, after these attributes
+unfoldable pub lifetime_after : Syntax → Parser
+lifetime_after attrs ts = wrap (λ s. Node (Both attrs s)) (parse_form lifetime_form ts)
 
-unfoldable pub const_behind : Syntax → Parser
-const_behind attrs ts = wrap (λ s. Both attrs (Left s)) (parse_form const_form ts)
+unfoldable pub const_after : Syntax → Parser
+const_after attrs ts = wrap (λ s. Both attrs (Left s)) (parse_form const_form ts)
 
-unfoldable pub type_behind : Syntax → Parser
-type_behind attrs ts = wrap (λ s. Both attrs (Right s)) (parse_form type_form ts)
+unfoldable pub type_after : Syntax → Parser
+type_after attrs ts = wrap (λ s. Both attrs (Right s)) (parse_form type_form ts)
 
--- what stands behind what was read
+-- what follows what was read
 abbrev pub after : Out → (Syntax → Parser) → Out
 after (Some p) q = q p.0 p.1
 after None q = None

@@ -1,4 +1,4 @@
--- A function that is handed over where types lead back to themselves: at this stream it may be called, and then answers what the rule
+-- A function that is handed over where types lead back to themselves: at this stream it may be called, and then returns what the rule
 -- reads. Besides the buffer it takes a mark without a value (of the type P), that says how it carries a refusal.
 use Rattle.std.specs.Prelude.{◌≡◌, Result}
 use denote.Ref.{MutBor}

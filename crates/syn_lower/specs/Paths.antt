@@ -1,4 +1,4 @@
--- WHAT SYNTAX PATHS AND THEIR ARGUMENTS STAND FOR, one level at a time, every field.
+-- THE SYNTAX OF PATHS AND THEIR ARGUMENTS, one level at a time, every field.
 use Rattle.std.specs.Prelude.{Bool, true, false, []}
 use Rattle.std.proofs.Common.{◌≡◌, refl, sym, true≢false}
 use Rattle.syn_grammar.specs.Shape.{untagged}
@@ -70,6 +70,6 @@ abbrev pub view_ParenthesizedGenericArguments : ParenthesizedGenericArguments-in
 view_ParenthesizedGenericArguments a =
     Both (group_syntax Paren a.paren_token (list_of syntax_of_Type comma_syntax a.inputs.pairs a.inputs.last)) (syntax_of_ReturnType a.output)
 
--- what it holds: the number of the words in `< >` stands under a mark that is never printed
+-- what it holds: the number of the words in `< >` is under a mark that is never printed
 abbrev pub view_QSelf : QSelf-in.Inside → Syntax
 view_QSelf a = Both (lt_syntax a.lt_token) (Both (syntax_of_Type a.ty.value) (Both (count a.position) (Both (maybe as_syntax a.as_token) (gt_syntax a.gt_token))))

@@ -1,5 +1,5 @@
--- WHAT SYNTAX A PATH WITH A TYPE IN `< >` BEFORE IT STANDS FOR.
--- A Rust value holds the words of the trait and the words behind `>` as one path, and says how many stand inside of the `< >`.
+-- THE SYNTAX OF A PATH WITH A TYPE IN `< >` BEFORE IT.
+-- A Rust value holds the words of the trait and the words after `>` as one path, and says how many are inside of the `< >`.
 use Rattle.std.specs.Prelude.{ℕ, zero, suc, [], ◌∷◌}
 use Rattle.syn_grammar.specs.Tokens.{call_site}
 use Rattle.syn_grammar.specs.Grammar.{Syntax, Nothing, Mark, Both, Left, Right, Node, Unshown}
@@ -8,7 +8,7 @@ use Rattle.syn_grammar.specs.Grammar.{Syntax, Nothing, Mark, Both, Left, Right, 
 abbrev pub count : ℕ → Syntax
 count n = Unshown (Mark ((n, call_site) ∷ []))
 
--- by how many a position lies behind the last word, which counts as it
+-- by how many a position lies after the last word, which counts as it
 abbrev pub surplus : ℕ → Syntax
 surplus zero = Nothing
 surplus (suc n) = count (suc n)
@@ -19,31 +19,31 @@ part (Left s) = s
 part (Right s) = s
 part s = s
 
--- Words, each with the `::` behind it: the first one and n more, or as many as there are; the `::` behind them; the others.
+-- Words, each followed by the `::`: the first one and n more, or as many as there are; the `::` after them; the others.
 abbrev pub words_in : ℕ → Syntax → Syntax
 words_in zero (Node (Both s (Left (Both colons l)))) = Node (Both s (Right Nothing))
 words_in (suc n) (Node (Both s (Left (Both colons Nothing)))) = Node (Both s (Right Nothing))
 words_in (suc n) (Node (Both s (Left (Both colons l)))) = Node (Both s (Left (Both colons (words_in n l))))
 words_in n s = s
 
-abbrev pub separator_behind : ℕ → Syntax → Syntax
-separator_behind zero (Node (Both s (Left (Both colons l)))) = colons
-separator_behind (suc n) (Node (Both s (Left (Both colons Nothing)))) = colons
-separator_behind (suc n) (Node (Both s (Left (Both colons l)))) = separator_behind n l
-separator_behind n s = Nothing
+abbrev pub separator_after : ℕ → Syntax → Syntax
+separator_after zero (Node (Both s (Left (Both colons l)))) = colons
+separator_after (suc n) (Node (Both s (Left (Both colons Nothing)))) = colons
+separator_after (suc n) (Node (Both s (Left (Both colons l)))) = separator_after n l
+separator_after n s = Nothing
 
-abbrev pub words_behind : ℕ → Syntax → Syntax
-words_behind zero (Node (Both s (Left (Both colons l)))) = l
-words_behind (suc n) (Node (Both s (Left (Both colons Nothing)))) = surplus (suc n)
-words_behind (suc n) (Node (Both s (Left (Both colons l)))) = words_behind n l
-words_behind n s = surplus n
+abbrev pub words_after : ℕ → Syntax → Syntax
+words_after zero (Node (Both s (Left (Both colons l)))) = l
+words_after (suc n) (Node (Both s (Left (Both colons Nothing)))) = surplus (suc n)
+words_after (suc n) (Node (Both s (Left (Both colons l)))) = words_after n l
+words_after n s = surplus n
 
--- What stands behind the type: `as` and a path inside of the `< >`, `>`, `::` and words. Without a word inside no `as` is printed,
+-- What follows the type: `as` and a path inside of the `< >`, `>`, `::` and words. Without a word inside no `as` is printed,
 -- and the `::` is the one before the path.
 abbrev pub qualified : ℕ → Syntax → Syntax → Syntax → Syntax → Syntax
 qualified zero as_token gt leading words = Both (Right (Unshown (part as_token))) (Both gt (Both (part leading) words))
 qualified (suc n) as_token gt leading Nothing = Both (Right (Unshown (part as_token))) (Both gt (Both (part leading) (surplus (suc n))))
-qualified (suc n) as_token gt leading words = Both (Left (Both (part as_token) (Node (Both leading (words_in n words))))) (Both gt (Both (separator_behind n words) (words_behind n words)))
+qualified (suc n) as_token gt leading words = Both (Left (Both (part as_token) (Node (Both leading (words_in n words))))) (Both gt (Both (separator_after n words) (words_after n words)))
 
 -- of what a value holds: the part in `< >`, and the path
 abbrev pub behind_type : Syntax → Syntax → Syntax

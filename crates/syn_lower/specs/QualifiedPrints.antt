@@ -1,9 +1,9 @@
--- WHAT IS PRINTED OF THE WORDS OF A QUALIFIED PATH: some of them, `>` behind the last of these, and the others.
+-- WHAT IS PRINTED OF THE WORDS OF A QUALIFIED PATH: some of them, `>` after the last of these, and the others.
 use Rattle.std.specs.Prelude.{ℕ, ◌-◌, nat_eq, List, [], ◌∷◌, Option, Some, None}
 use Rattle.syn_grammar.specs.Tokens.{Stream, end, ◌⧺◌, pick}
 use Rattle.syn_grammar.specs.Grammar.{Syntax, print}
 
--- a word, and `>` behind it where it is the last one inside
+-- a word, and `>` after it where it is the last one inside
 unfoldable pub word_part : {T : Type 0} → (T → Syntax) → Stream → ℕ → T → Stream
 word_part view gt n t = print (view t) ⧺ pick (nat_eq n 1) gt end
 

@@ -41,7 +41,7 @@ abbrev pub values_size : {T P : Type 0} → (T → Syntax) → List (T × P) →
 values_size v [] o = last_size v o
 values_size v (x ∷ l) o = tree_size (v x.0) + values_size v l o
 
--- a tree that stands in another one
+-- a tree that is in another one
 abbrev pub above : Syntax → ℕ
 above s = tree_size s + 1
 
@@ -66,7 +66,7 @@ abbrev pub weight_last : {A : Type 0} → (A → ℕ) → Unit {0} ⊎ A → ℕ
 weight_last d (inl x) = 0
 weight_last d (inr x) = d x
 
--- what stands in an optional part, and in a list
+-- what is in an optional part, and in a list
 module _ {T : Type 0} (v : T → Syntax) (d : T → ℕ) (falls : (t : T) → d t ≤ tree_size (v t) + 1) where
   pub maybe_falls : (o : Option T) → weight d (split o) ≤ tree_size (maybe v o)
   maybe_falls None = omega arith

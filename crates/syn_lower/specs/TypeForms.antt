@@ -36,11 +36,11 @@ in_brackets o = wrap Node (wrap Right (wrap Right (wrap Right (wrap Left o))))
 
 -- PATHS
 
--- the arguments of a word, where they stand next
+-- the arguments of a word, where they are next
 abbrev pub arguments_form : Grammar
 arguments_form = shaped untagged (when at_arguments then rule type_arguments else empty)
 
--- a word behind which arguments may stand
+-- a word that may have arguments
 abbrev pub named_word_form : Grammar
 named_word_form = asking (name_or (w_Self_type ∷ [])) & arguments_form
 
@@ -63,13 +63,13 @@ argument_form = either lifetime (rule generic_argument)
 abbrev pub association_form : Grammar
 association_form = telling Before_equals name & punctuation equals & rule type
 
--- what stands behind the type of a qualified path: `as` and a path; and `>`, `::` and words
+-- what follows the type of a qualified path: `as` and a path; and `>`, `::` and words
 abbrev pub trait_form : Grammar
 trait_form = plainly (word w_as) & rule type_path
 
-abbrev pub behind_trait_form : Grammar
-behind_trait_form = punctuation greater & punctuation colons & rule type_words
+abbrev pub after_trait_form : Grammar
+after_trait_form = punctuation greater & punctuation colons & rule type_words
 
--- the answer of a qualified path, by that of what stands behind its type
+-- the result of a qualified path, by that of what follows its type
 abbrev pub of_qualified : Syntax → Syntax → Out → Out
 of_qualified lt ty o = wrap Node (wrap Left (wrap Node (wrap (Both lt) (wrap (Both ty) o))))

@@ -1,6 +1,6 @@
--- WHAT SYNTAX TYPES STAND FOR, one level at a time, every field.
--- A tree that a parser gives stands for the derivation of its rule. Of other trees too everything is shown: what is never
--- printed stands under `Unshown`, and a mark that is printed though the tree lacks it is `Added`.
+-- THE SYNTAX OF TYPES, one level at a time, every field.
+-- A tree that a parser gives represents the derivation of its rule. Of other trees too everything is shown: what is never
+-- printed is under `Unshown`, and a mark that is printed though the tree lacks it is `Added`.
 use Rattle.std.specs.Prelude.{List, [], Option, Some}
 use Rattle.syn_grammar.specs.Words.{comma}
 use Rattle.syn_grammar.specs.Tokens.{Paren, Bracket, Stream, end}
@@ -24,7 +24,7 @@ use Rattle.syn_lower.specs.declared.ty.TypeReference.TheInside as TypeReference-
 use Rattle.syn_lower.specs.declared.ty.TypeSlice.TheInside as TypeSlice-in
 use Rattle.syn_lower.specs.declared.ty.TypeTuple.TheInside as TypeTuple-in
 
--- A type, by the alternatives of its rule; a type of a field named `_` is kept as tokens.
+-- A type, by the alternatives of its rule; a type of a field named `_` is kept verbatim.
 abbrev pub syntax_of_Type : Type-m.the_data → Syntax
 syntax_of_Type (Type-m.Reference t) = Node (Left t)
 syntax_of_Type (Type-m.Ptr t) = Node (Right (Left t))
@@ -52,7 +52,7 @@ view_TypeNever a = not_syntax a.bang_token
 abbrev pub view_TypeParen : TypeParen-in.Inside → Syntax
 view_TypeParen a = group_syntax Paren a.paren_token (Node (Right (Both (syntax_of_Type a.elem.value) (Right Nothing))))
 
--- what it holds; `syntax_of_TypePath` is what that stands for
+-- what it holds; `syntax_of_TypePath` is what that represents
 abbrev pub view_TypePath : TypePath-in.Inside → Syntax
 view_TypePath a = Node (Both (maybe itself a.qself) a.path)
 
@@ -73,7 +73,7 @@ view_TypeReference a =
 abbrev pub view_TypeSlice : TypeSlice-in.Inside → Syntax
 view_TypeSlice a = group_syntax Bracket a.bracket_token (Both (syntax_of_Type a.elem.value) (Right Nothing))
 
--- The types of a tuple. Behind one alone a comma is printed in any case, as it would be a type in parentheses without.
+-- The types of a tuple. After one alone a comma is printed in any case, as it would be a type in parentheses without.
 abbrev pub tuple_elements : Syntax → Syntax
 tuple_elements (Node (Right (Both s (Right Nothing)))) = Node (Right (Both s (Added comma)))
 tuple_elements s = s

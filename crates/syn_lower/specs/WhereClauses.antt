@@ -1,4 +1,4 @@
--- WHAT SYNTAX WHERE CLAUSES STAND FOR, one level at a time, every field.
+-- THE SYNTAX OF WHERE CLAUSES, one level at a time, every field.
 use Rattle.std.specs.Prelude.{Bool, true, false}
 use Rattle.syn_grammar.specs.Words.{w_where}
 use Rattle.syn_grammar.specs.Rules.{predicates}
@@ -32,12 +32,12 @@ syntax_of_WherePredicate (WherePredicate-m.Ty p) = Node (Right p)
 abbrev pub view_WhereClause : WhereClause-in.Inside → Syntax
 view_WhereClause a = Node (Vanishing false (Left (Both (where_syntax a.where_token) (solid (list_of syntax_of_WherePredicate comma_syntax a.predicates.pairs a.predicates.last)))))
 
--- a clause stands there, where a rule reads one or none
+-- a clause is there, where a rule reads one or none
 abbrev pub is_there : Syntax → Bool
 is_there (Node (Vanishing b (Left s))) = true
 is_there s = false
 
--- a clause where it stands next
+-- a clause where it is next
 abbrev pub clause_form : Grammar
 clause_form = plainly (word w_where) & rule predicates
 

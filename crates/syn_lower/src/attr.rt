@@ -33,7 +33,7 @@ pub struct Attribute {
     pub meta: Meta,
 }
 
-/// Whether an attribute belongs to what follows it, or to what it stands in.
+/// Whether an attribute belongs to what follows it, or to what it is in.
 #[derive(Clone, Copy, Debug)]
 pub enum AttrStyle {
     /// `#[a]`
@@ -77,9 +77,9 @@ pub enum MacroDelimiter {
     Bracket(Bracket),
 }
 
-/// What the attribute belongs to is told by what stands behind its `#`.
+/// What the attribute belongs to is decided by what follows its `#`.
 impl Compared for Attribute {
-    #[tactic(auto, using(crate::proofs::Attributes::same_behind_pound))]
+    #[tactic(auto, using(crate::proofs::Attributes::same_after_pound))]
     fn is_same(&self, other: &Attribute) -> bool {
         self.pound_token.is_same(&other.pound_token)
             && self.style.is_same(&other.style)
@@ -146,7 +146,7 @@ fn print_style(style: AttrStyle, out: &mut StreamBuilder) -> std::result::Result
 }
 
 impl Print for Attribute {
-    #[tactic(auto, using(syn_tokens::proofs::Prints::groups, crate::proofs::Attributes::print_behind_pound))]
+    #[tactic(auto, using(syn_tokens::proofs::Prints::groups, crate::proofs::Attributes::print_after_pound))]
     fn print_in(&self, out: &mut StreamBuilder) -> std::result::Result<(), AllocError> {
         self.pound_token.print_in(out)?;
         print_style(self.style, out)?;
@@ -196,7 +196,7 @@ impl Print for MetaList {
 }
 
 impl Print for MetaNameValue {
-    #[tactic(auto, using(syn_tokens::proofs::Prints::prints, crate::proofs::Attributes::print_behind_equals))]
+    #[tactic(auto, using(syn_tokens::proofs::Prints::prints, crate::proofs::Attributes::print_after_equals))]
     fn print_in(&self, out: &mut StreamBuilder) -> std::result::Result<(), AllocError> {
         self.path.print_in(out)?;
         self.eq_token.print_in(out)?;

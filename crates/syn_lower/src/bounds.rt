@@ -197,7 +197,7 @@ pub(crate) fn predicate_bounds(
     punctuated_list::<PredicateEnd, Plus, _, _>(input, |next| TypeParamBound::read(next))
 }
 
-/// Lifetimes joined by `+`, as long as a lifetime stands next.
+/// Lifetimes joined by `+`, while a lifetime is next.
 #[tactic(auto, using(syn_grammar::proofs::Each::lifetimes_is))]
 pub(crate) fn lifetimes(input: &mut ParseBuffer<'_>) -> Parsed<Punctuated<Lifetime, Plus>>
     ensures reads { Computes IsSyntax (λ l. turned (list_of syntax_of_lifetime plus_syntax l.pairs l.last)) (parse_rule rules.lifetimes input.old) result input.new }
@@ -216,7 +216,7 @@ pub(crate) fn lifetimes(input: &mut ParseBuffer<'_>) -> Parsed<Punctuated<Lifeti
     Ok(list)
 }
 
-/// Parentheses are compared by whether they stand.
+/// Parentheses are compared by whether they are there.
 impl Compared for TraitBound {
     fn is_same(&self, other: &TraitBound) -> bool {
         self.paren_token.is_some() == other.paren_token.is_some()

@@ -3,8 +3,8 @@ ghost use Rattle.std.specs.Prelude.{◌↔◌};
 
 use syn_parse::read::refusal::Refusal;
 
-/// What a refusal can be carried in. A function that is handed over in a recursion may answer nothing that holds a `&'static`, as
-/// a `Refusal` does. So it answers anything that carries a refusal, and the first call chooses the refusal itself.
+/// What a refusal can be carried in. A function that is handed over in a recursion must not return anything that holds a `&'static`, as
+/// a `Refusal` does. So it returns anything that carries a refusal, and the first call chooses the refusal itself.
 pub trait Carrier: Drop {
     ghost use Rattle.syn_parse.specs.Refusals.{IsSyntax};
 

@@ -81,12 +81,12 @@ pub struct LitBool {
 pub trait LiteralKind {
     ghost kind: { KindOfLiteral };
 
-    /// The kind, as tokens tell it.
+    /// The kind of a token.
     fn kind() -> LitKind
         ensures { result ≡ kind };
 }
 
-/// A literal token of one kind. Two are equal where their texts are, wherever they stand.
+/// A literal token of one kind. Two are equal where their texts are, spans aside.
 #[derive(Drop)]
 pub struct LitToken<K: LiteralKind> {
     token: Literal,
@@ -133,7 +133,7 @@ impl<K: LiteralKind> LitToken<K> {
         &self.token
     }
 
-    /// Where it stands.
+    /// Its span.
     pub fn span(&self) -> Span
         ensures { result ≡ self.now.span }
     {
@@ -213,7 +213,7 @@ impl Lit {
         }
     }
 
-    /// Where it stands.
+    /// Its span.
     pub fn span(&self) -> Span
         ensures { result ≡ span_of_Lit self.now }
     {

@@ -1,4 +1,4 @@
-//! The conditions of the grammar on what stands next, by their names.
+//! The conditions of the grammar on the next tokens, by their names.
 ghost use Rattle.std.specs.Prelude.{◌≡◌, codes};
 ghost use Rattle.syn_grammar.specs.Take.{sees};
 ghost use Rattle.syn_grammar.specs.Table as table;
@@ -15,7 +15,7 @@ use syn_tokens::token::{
     Super, True, Union, kind,
 };
 
-/// Whether parentheses stand next that hold `crate`, `self` or `super` alone, or begin with `in`.
+/// Whether parentheses are next that hold `crate`, `self` or `super` alone, or begin with `in`.
 #[tactic(auto, using(crate::proofs::Restricted::restriction_seen))]
 pub fn at_restriction(input: &ParseBuffer<'_>) -> bool
     ensures { result ≡ sees table.at_restriction input.now }
@@ -34,7 +34,7 @@ fn is_lone_word(content: &ParseBuffer<'_>) -> bool
         && content.peek2::<End>()
 }
 
-/// Whether an invisible group without content stands next, which stands for a visibility that isn't written.
+/// Whether an invisible group without content is next, which represents a visibility that isn't written.
 #[tactic(auto, using(crate::proofs::Restricted::empty_group_seen))]
 pub fn at_empty_group(input: &ParseBuffer<'_>) -> bool
     ensures { result ≡ sees grammar.at_empty_group input.now }
@@ -45,7 +45,7 @@ pub fn at_empty_group(input: &ParseBuffer<'_>) -> bool
     }
 }
 
-/// Whether `struct` stands next, or `union` with a group in braces behind it.
+/// Whether `struct` is next, or `union` followed by a group in braces.
 #[tactic(auto, using(crate::proofs::Nameless::nameless_seen))]
 pub fn at_nameless_fields(input: &ParseBuffer<'_>) -> bool
     ensures { result ≡ sees table.at_nameless_fields input.now }
@@ -94,7 +94,7 @@ impl Peek for PredicateEnd {
     }
 }
 
-/// Whether `:` stands next, and not `::`.
+/// Whether `:` is next, and not `::`.
 #[tactic(auto, using(syn_grammar::proofs::Looks::sees_but))]
 fn at_lone_colon(input: &ParseBuffer<'_>) -> bool
     ensures { result ≡ sees table.at_lone_colon input.now }
@@ -102,7 +102,7 @@ fn at_lone_colon(input: &ParseBuffer<'_>) -> bool
     input.peek::<Colon>() && !input.peek::<PathSep>()
 }
 
-/// Whether an identifier that is no keyword, or `Self`, stands next: a word of a path behind which arguments may stand.
+/// Whether an identifier that is no keyword, or `Self`, is next: a word of a path that may have arguments.
 #[tactic(auto, using(syn_grammar::proofs::Looks::sees_or))]
 pub fn at_named_word(input: &ParseBuffer<'_>) -> bool
     ensures { result ≡ sees table.at_named_word input.now }
@@ -110,7 +110,7 @@ pub fn at_named_word(input: &ParseBuffer<'_>) -> bool
     input.peek::<Ident>() || input.peek::<SelfType>()
 }
 
-/// Whether a constant stands next: a group in braces, `true`, `false` or a literal.
+/// Whether a constant is next: a group in braces, `true`, `false` or a literal.
 #[tactic(auto, using(syn_grammar::proofs::Looks::sees_or))]
 pub fn at_constant(input: &ParseBuffer<'_>) -> bool
     ensures { result ≡ sees table.at_constant input.now }

@@ -26,7 +26,7 @@ pub enum Member {
     Unnamed(Index),
 }
 
-/// The place of a field without a name among the fields, and where it stands: its number, or the type of the field.
+/// The index of an unnamed field: its number, and the span of that number or of the field's type.
 #[derive(Clone, Copy, Debug)]
 pub struct Index {
     pub index: u32,
@@ -56,7 +56,7 @@ impl Read for Index {
     }
 }
 
-/// Two places are the same where their numbers are, wherever they stand.
+/// Two places are the same where their numbers are, spans aside.
 impl Compared for Index {
     #[tactic(auto, using(crate::proofs::Numbers::same_number))]
     fn is_same(&self, other: &Index) -> bool {

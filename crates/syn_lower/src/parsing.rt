@@ -1,5 +1,5 @@
-//! Parsers of types and paths. A type holds types, in the arguments of its paths too: each parser is told what reads a type
-//! inside, and `recursion` closes the circle.
+//! Parsers of types and paths. A type holds types, in the arguments of its paths too: each parser is given a parser for a nested type
+//! that it calls, and `recursion` closes the circle.
 ghost use Rattle.syn_grammar.specs.Tokens.{Stream};
 ghost use Rattle.syn_grammar.specs.Rules as rules;
 ghost use Rattle.syn_lower.specs.Parsing.{Parses, IsSyntax};

@@ -37,7 +37,7 @@ pub struct PathSegment {
     pub arguments: PathArguments,
 }
 
-/// What stands behind a path's word.
+/// What follows a path's word.
 #[cycle(types)]
 #[derive(Drop)]
 pub enum PathArguments {
@@ -90,7 +90,7 @@ pub struct ParenthesizedGenericArguments {
     pub output: ReturnType,
 }
 
-/// What stands behind the arguments of a function: `->` and a type, or nothing.
+/// What follows the arguments of a function: `->` and a type, or nothing.
 #[cycle(types)]
 #[derive(Drop)]
 pub enum ReturnType {
@@ -98,8 +98,8 @@ pub enum ReturnType {
     Ty(RArrow, Box<Type>),
 }
 
-/// The part of a qualified path in `< >`: a type, and perhaps a trait. The trait's path is the beginning of the path behind
-/// it: `position` counts the segments that stand inside of the `< >`.
+/// The part of a qualified path in `< >`: a type, and perhaps a trait. The trait's path is the beginning of the path after
+/// it: `position` counts the segments that are inside of the `< >`.
 #[cycle(types)]
 #[derive(Drop)]
 pub struct QSelf {
@@ -112,9 +112,9 @@ pub struct QSelf {
 
 impl Path {
     /// Parses a path in module style: `[::]` and words joined by `::`, each an identifier, `self`, `Self`, `super` or `crate`.
-    /// Arguments behind a word are left.
+    /// Arguments after a word are left.
     ///
-    /// Where no such path stands next, or memory is refused, the buffer stands where it stood.
+    /// Where no such path is next, or memory is refused, the buffer is unchanged.
     #[tactic(auto, using(syn_parse::proofs::Refused::refused_by_syntax))]
     pub fn parse_mod_style(input: &mut ParseBuffer<'_>) -> error::Result<Path>
         ensures outcome { Outcome IsSyntaxError itself (rule rules.module_path) input.old result input.new }
@@ -200,7 +200,7 @@ impl CompareNested for QSelf {
     }
 }
 
-/// What is returned stands behind the parentheses.
+/// What is returned follows the parentheses.
 impl PrintNested for ParenthesizedGenericArguments {
     #[tactic(auto, using(syn_tokens::proofs::Prints::groups, crate::proofs::Smaller::lists))]
     fn print_nested<N: PrintType>(

@@ -40,11 +40,11 @@ pub enum Type {
     Slice(TypeSlice),
     /// `()`, `(A, B)`
     Tuple(TypeTuple),
-    /// Tokens that stand for the type of a field named `_`: `struct` or `union` and fields in braces.
+    /// Tokens that represent the type of a field named `_`: `struct` or `union` and fields in braces.
     Verbatim(TokenStream),
 }
 
-/// An array: a type and a length, which is kept as its tokens until it is opened.
+/// An array: a type and a length, which is stored as tokens until it is opened.
 #[cycle(types)]
 #[derive(Drop)]
 pub struct TypeArray {
@@ -112,7 +112,7 @@ pub struct TypeSlice {
     pub elem: Box<Type>,
 }
 
-/// A tuple. One value without a comma behind it is printed with one, since it would be a type in parentheses else.
+/// A tuple. One value without a comma after it is printed with one, since it would be a type in parentheses else.
 #[cycle(types)]
 #[derive(Drop)]
 pub struct TypeTuple {
@@ -164,7 +164,7 @@ impl CompareNested for TypePath {
     }
 }
 
-/// Behind one type alone a comma is printed in any case.
+/// After one type alone a comma is printed in any case.
 impl PrintNested for TypeTuple {
     #[tactic(auto, using(syn_tokens::proofs::Prints::groups, crate::proofs::Types::print_elements, crate::proofs::Smaller::lists))]
     fn print_nested<N: PrintType>(

@@ -91,7 +91,7 @@ impl Read for WhereClause {
     }
 }
 
-/// A where clause where `where` stands next.
+/// A where clause if `where` is next.
 #[tactic(auto, using(crate::proofs::WhereClauses::some_clause, crate::proofs::WhereClauses::none_clause))]
 pub fn where_clause(input: &mut ParseBuffer<'_>) -> Parsed<Option<WhereClause>>
     ensures reads { Computes IsSyntax where_part (parse_rule rules.where_clause input.old) result input.new }
@@ -124,7 +124,7 @@ fn predicates(input: &mut ParseBuffer<'_>) -> Parsed<Punctuated<WherePredicate, 
     punctuated_list::<PredicateEnd, Comma, _, _>(input, |next| WherePredicate::read(next))
 }
 
-/// A lifetime, a colon and lifetimes; or a type, perhaps behind `for` and lifetimes, a colon and bounds.
+/// A lifetime, a colon and lifetimes; or a type, perhaps after `for` and lifetimes, a colon and bounds.
 impl Read for WherePredicate {
     ghost form = { of (rule rules.predicate) };
 

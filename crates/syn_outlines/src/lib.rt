@@ -26,7 +26,7 @@ pub fn add_stream(out: &mut String, tokens: &TokenStream) -> Result<(), AllocErr
     Ok(())
 }
 
-/// Adds a word, behind a space where something stands before it.
+/// Adds a word, after a space where something is before it.
 pub fn add_word(out: &mut String, word: &str) -> Result<(), AllocError> {
     if !out.is_empty() {
         out.push(' ')?;

@@ -7,12 +7,12 @@ use Rattle.syn_parse.specs.Refusals.{IsRefusedAs}
 use Rattle.syn_parse.specs.declared.read.refusal.Refusal.{Refusal}
 use Rattle.syn_parse.specs.declared.read.refusal.Refusal.TheVariants.{Memory, Syntax}
 
--- a refusal of the tokens becomes a syntax error
+-- a refusal for syntax becomes a syntax error
 pub syntax_becomes_error : (r : Refusal) (e : List FaultValue) → IsRefusedAs r e → IsSyntax r → IsSyntaxError e
 syntax_becomes_error (Memory at) e h s = absurd s
 syntax_becomes_error (Syntax span text) e h s = subst IsSyntaxError (sym h) tt
 
--- an error that is passed on
+-- an error that is propagated
 pub same_error : {X E : Type 0} (r s : Result X E) (e : E) → IsErrAnd r (λ f. f ≡ e) → s ≡ Err e → r ≡ s
 same_error (Ok x) s e h i = absurd h
 same_error (Err f) s e h i = ap Err h ∙ sym i

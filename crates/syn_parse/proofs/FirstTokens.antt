@@ -1,4 +1,4 @@
--- What doesn't stand at the front.
+-- What is not next.
 use Rattle.std.proofs.Common.{◌≡◌, ℕ, Bool, true, false, List, [], ◌∷◌, ◌++◌, map, nat_eq, Some, None, refl, sym, ap, true≢false}
 use Rattle.syn_grammar.specs.Words.{Text, keywords, contextual}
 use Rattle.syn_grammar.specs.Tokens.{Span, Delimiter, LitKind, Int, Leaf, ident, literal, Stream, end, leaf, punct, group, pick, one_of_texts, Name, Word, Literal, mem, leaf_terminal}
@@ -91,12 +91,12 @@ pub mark_is : (x : Text) (ts : Stream) → take_mark x ts ≡ marked (spelled x 
 unfolding take_mark spelled
 mark_is x ts = refl
 
--- the last character, however it is joined
+-- the last character, whatever its spacing
 pub last_is : (c d : ℕ) (j : Bool) (sp : Span) (r : Stream) → spelled (c ∷ []) (punct d j sp r) ≡ only (nat_eq d c) (Some ((d, sp) ∷ [], r))
 unfolding spelled
 last_is c d j sp r = refl
 
--- one before others is joined to the next
+-- a character before others is joint to the next
 pub joint_is : (c e d : ℕ) (l : Text) (sp : Span) (r : Stream) → spelled (c ∷ e ∷ l) (punct d true sp r) ≡ only (nat_eq d c) (add_char d sp (spelled (e ∷ l) r))
 unfolding spelled
 joint_is c e d l sp r = refl

@@ -1,4 +1,4 @@
--- Lists from the left: what one step of a loop reads.
+-- Lists from the left: what one iteration of a loop parses.
 use Rattle.std.proofs.Common.{◌≡◌, true, false, List, [], ◌∷◌, ◌++◌, Some, None, refl, sym, ap, ◌∙◌}
 use Rattle.syn_grammar.specs.Tokens.{Stream}
 use Rattle.syn_grammar.specs.Rules.{Rule}
@@ -22,7 +22,7 @@ module _ {T P : Type 0} (tag : Syntax → Syntax) (v : T → Syntax) (w : P → 
   onto_more [] x s = refl
   onto_more (y ∷ l) x s = ap (λ z. Node (tag (Both (v y.0) (Left (Both (w y.1) z))))) (onto_more l x s)
 
-  -- one more element with its separator is read
+  -- one more element with its separator is parsed
   pub onto_grows : (l : List (T × P)) (x : T × P) (o : Out) →
       wrap (onto tag v w l) (wrap (λ s. Node (tag (Both (v x.0) (Left (Both (w x.1) s))))) o) ≡ wrap (onto tag v w (l ++ x ∷ [])) o
   onto_grows l x o =
@@ -30,7 +30,7 @@ module _ {T P : Type 0} (tag : Syntax → Syntax) (v : T → Syntax) (w : P → 
       ∙ wrap_same _ _ (λ s. sym (onto_more l x s)) o
 
 module _ {T P : Type 0} (v : T → Syntax) (w : P → Syntax) (k : Rule) (e : Form) (stop next : Condition) (sep : Form) (is : IsList k e stop next sep) (ts : Stream) where
-  -- the stop stands next
+  -- the stop is next
   pub list_end : meets stop ts ≡ true → parse_rule k ts ≡ Some (Node (Left Nothing), ts)
   list_end h = is.is ts ∙ rw h refl
 

@@ -1,4 +1,4 @@
--- Where a literal of some kind stands next.
+-- When the next token is a literal of some kind.
 use Rattle.std.proofs.Common.{◌≡◌, false, true, [], ◌∷◌, refl, ap, ap₂, ◌∙◌}
 use Rattle.syn_grammar.specs.Words.{Text}
 use Rattle.syn_grammar.specs.Tokens.{Span, LitKind, Str, ByteStr, CStr, Byte, Char, Int, Float, literal, Stream, leaf, or, Look, at_literal, ◌or_else◌}

@@ -1,4 +1,4 @@
--- Faults that are gathered at one place.
+-- Faults collected at one position.
 use Rattle.std.proofs.Common.{◌≡◌, ℕ, ◌+◌, ◌<◌, ◌≤◌, List, [], ◌∷◌, ◌++◌, length, get_or, map, take, arith, length-append, refl, sym, ap, ◌∙◌}
 use Rattle.std.specs.Borrow.{Bor}
 use Rattle.std.proofs.lemmas.List.{length-map, length-take-le, map_more, take_all}
@@ -8,15 +8,15 @@ use Rattle.syn_parse.specs.Looked.{HasFaultsNext, texts, told}
 use Rattle.syn_parse.specs.Nexts.{StandsNext}
 use Rattle.syn_tokens.specs.declared.span.Span.{Span}
 
--- a text, as it is lent
+-- a text, as it is borrowed
 abbrev pub Name : Type 0
 Name = Bor (List ℕ)
 
--- the fault there that a name makes
+-- the fault that a name becomes there
 abbrev pub fault_at : Span → Name → FaultValue
 fault_at here name = (here, name.now)
 
--- a fault behind fewer than four
+-- a fault after fewer than four
 pub one_told : (here : Span) (names : List Name) (i : ℕ) (d : Name) (f : FaultValue) (text : List ℕ) (start faults new : List FaultValue) →
     faults ≡ start ++ map (fault_at here) (take i names) → start ≡ f ∷ [] → new ≡ (here, text) ∷ [] → text ≡ (get_or names i d).now → i < length names → length names < 4 →
     combined faults new ≡ start ++ map (fault_at here) (take (i + 1) names)

@@ -8,12 +8,12 @@ use Rattle.syn_parse.specs.Nexts.{RefusedNext, HasFaultNext}
 use Rattle.syn_parse.specs.declared.read.refusal.Refusal.{Refusal}
 use Rattle.syn_parse.specs.declared.read.refusal.Refusal.TheVariants.{Memory, Syntax}
 
--- a syntax error was a refusal of the tokens
+-- a syntax error was a refusal for syntax
 pub refused_by_syntax : (r : Refusal) (e : List FaultValue) → IsRefusedAs r e → IsSyntaxError e → IsSyntax r
 refused_by_syntax (Memory at) e h s = subst IsSyntaxError h s
 refused_by_syntax (Syntax span text) e h s = tt
 
--- what was refused at the next token is a fault there, of the same text
+-- a refusal at the next token is a fault there, with the same message
 pub refused_next : (ts : Stream) (text : List ℕ) (r : Refusal) (e : List FaultValue) → IsRefusedAs r e → RefusedNext ts text r → HasFaultNext ts text e
 refused_next ts text (Memory at) e h n = absurd n
 refused_next ts text (Syntax span said) e h (t, s) = (span, h ∙ ap (λ x. (span, x) ∷ []) t, s)

@@ -1,4 +1,4 @@
--- Rows from the left: what one step of a loop reads.
+-- Rows from the left: what one iteration of a loop parses.
 use Rattle.std.proofs.Common.{◌≡◌, Bool, true, false, List, [], ◌∷◌, ◌++◌, Some, None, refl, sym, ap, ◌∙◌}
 use Rattle.syn_grammar.specs.Words.{comma}
 use Rattle.syn_grammar.specs.Tokens.{Stream, pick}
@@ -48,7 +48,7 @@ place (Mark ((c, sp) ∷ [])) = refl
 place (Mark (x ∷ y ∷ l)) = refl
 place _ = refl
 
--- a member with others behind it
+-- a member with others after it
 pub more_member : (first : Syntax → Bool) (s c t : Syntax) → more (member_of first s) (span_of c) t ≡ More (first s) s (place_of c) t
 more_member first s c t = go (first s)
   where
@@ -61,14 +61,14 @@ module _ {T P : Type 0} (first : Syntax → Bool) (v : T → Syntax) (w : P → 
   ordered_more [] x s = refl
   ordered_more (y ∷ l) x s = ap (More (first (v y.0)) (v y.0) (place_of (w y.1))) (ordered_more l x s)
 
-  -- one more member with its comma is read
+  -- one more member with its comma is parsed
   pub ordered_grows : (l : List (T × P)) (x : T × P) (o : Out) →
       wrap (ordered_onto first v w l) (wrap (More (first (v x.0)) (v x.0) (place_of (w x.1))) o) ≡ wrap (ordered_onto first v w (l ++ x ∷ [])) o
   ordered_grows l x o =
       wrap_wrap (ordered_onto first v w l) (More (first (v x.0)) (v x.0) (place_of (w x.1))) o
       ∙ wrap_same _ _ (λ s. sym (ordered_more l x s)) o
 
-  -- members, and one without a comma; or none
+  -- members, and one without a comma; or no member
   pub ordered_last : (l : List (T × P)) (t : T) → ordered_onto first v w l (Last (first (v t)) (v t)) ≡ ordered_of first (list_of v w l (Some t))
   ordered_last [] t = refl
   ordered_last (y ∷ l) t = ap (More (first (v y.0)) (v y.0) (place_of (w y.1))) (ordered_last l t)

@@ -1,4 +1,4 @@
--- Whole streams that are refused.
+-- Refusals of whole streams.
 use Rattle.std.proofs.Common.{◌≡◌, true, Some, None, refl, subst, sym, ap, ◌∙◌, Result, Ok, Err}
 use Rattle.std.specs.Result.{IsErrAnd}
 use Rattle.syn_grammar.specs.Tokens.{Stream, end, visible}
@@ -8,7 +8,7 @@ use Rattle.syn_grammar.specs.Run.{value_of}
 use Rattle.syn_grammar.proofs.Takes.{end_found}
 use Rattle.syn_parse.specs.Form.{Form, of, keyword, ◌followed_by◌, choice, in_group, list, such_that, parse, Derives, Meaning, NotDerivedWhole, WholeOutcome}
 
--- an error that is passed on
+-- an error that is propagated
 pub whole_err : {X E : Type 0} (refusal : E → Type 0) (view : X → Syntax) (f : Form) (ts : Stream) (r : Result X E) (e : E) →
     IsErrAnd r (λ f. f ≡ e) → (visible ts ≡ true → refusal e → NotDerivedWhole f ts) → WholeOutcome refusal view f ts r
 whole_err refusal view g ts (Ok x) e h u = absurd h
@@ -24,7 +24,7 @@ whole_unread (in_group d f) ts u = u
 whole_unread (list f g) ts u = u
 whole_unread (such_that q f) ts u = u
 
--- the parser refused
+-- the parser failed
 pub whole_refused : (f : Form) → Meaning f → (ts : Stream) → visible ts ≡ true → parse f ts ≡ None → NotDerivedWhole f ts
 whole_refused f m ts v e = whole_unread f ts (λ s d. absurd (cc (sym e ∙ (m.derived ts v s end).1 d)))
 
@@ -35,7 +35,7 @@ rest_or None r = r
 none_some : {C : Type 0} {x : Syntax × Stream} → ◌≡◌ {A = Out} None (Some x) → C
 none_some e = absurd (cc e)
 
--- or something is left
+-- or tokens remain
 pub whole_left : (f : Form) → Meaning f → (ts : Stream) (s : Syntax) (r : Stream) → visible ts ≡ true → parse f ts ≡ Some (s, r) → ((p : Out) → only (is_end r) p ≡ None) → NotDerivedWhole f ts
 unfolding rest_or
 whole_left f m ts s r v e n = whole_unread f ts (λ t d.

@@ -1,4 +1,4 @@
--- Which identifiers are names and words, of their texts.
+-- Which identifiers are names and words, decided by their texts.
 use Rattle.std.proofs.Common.{◌≡◌, Bool, true, false, List, [], ◌∷◌, ◌++◌, map, Some, None, refl, sym, ap, ◌∙◌, true≢false}
 use Rattle.syn_grammar.specs.Words.{Text, keywords, contextual}
 use Rattle.syn_grammar.specs.Tokens.{Span, LitKind, Str, ByteStr, CStr, Byte, Char, Int, Float, ident, literal, Stream, end, leaf, punct, group, and, or, no, pick, same_text, one_of_texts, Name, Word, mem}
@@ -40,7 +40,7 @@ apart_none x (y ∷ l) m a e = go (apart_none x l m) (same_text x y) refl e (one
     go ih true f h false i a = ap (λ z. one_of_texts z m) (same_text_eq x y f) ∙ i
     go ih false f h false i a = ih a h
 
--- an identifier is a name where its text is no keyword
+-- an identifier is a name if its text is not a keyword
 pub fits_name : (x : Text) → fits name (ident x) ≡ no (is_keyword x)
 unfolding is_keyword
 fits_name x = go (one_of_texts x (keywords ++ contextual)) (one_of_append x keywords contextual) (one_of_texts x keywords) refl
@@ -67,7 +67,7 @@ fits_name_or l x = go (one_of_texts x (keywords ++ contextual)) (one_of_append x
     go false e true f = absurd (true≢false (sym (e ∙ ap (λ z. or z (one_of_texts x contextual)) f)))
     go false e false f = refl
 
--- it is a word that the grammar knows where it has its text
+-- it is a word that the grammar knows, if it has its text
 pub fits_word : (w x : Text) → is_known_word w ≡ true → fits (word w) (ident x) ≡ same_text x w
 unfolding is_known_word
 fits_word w x k = go (one_of_texts x (keywords ++ contextual)) refl (same_text x w) refl
@@ -128,7 +128,7 @@ pub take_literal : (k : LitKind) (x : Text) (sp : Span) (r : Stream) → take_to
 unfolding take_token
 take_literal k x sp r = ap (λ b. taken_if b (Token (literal k x) sp) r) (fits_literal k x)
 
--- KEYWORDS OF OWN SYNTAXES
+-- CUSTOM KEYWORDS
 pub take_the_keyword : (w x : Text) (sp : Span) (r : Stream) → same_text x w ≡ true → take_keyword w (leaf (ident x) sp r) ≡ Some (Token (ident w) sp, r)
 unfolding take_keyword
 take_the_keyword w x sp r e = ap (λ b. taken_if b (Token (ident x) sp) r) e ∙ ap (λ z. Some (Token (ident z) sp, r)) (same_text_eq x w e)

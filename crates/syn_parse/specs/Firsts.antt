@@ -1,4 +1,4 @@
--- WHAT THE NEXT TOKEN TREE IS, as far as one look at it tells.
+-- THE KIND OF THE NEXT TOKEN TREE, from a single lookup.
 use Rattle.std.specs.Prelude.{◌≡◌, true, false}
 use Rattle.syn_grammar.specs.Tokens.{Stream, end, leaf, ident, literal, punct, group}
 use Rattle.syn_tokens.specs.Idents.{is_keyword}
@@ -6,7 +6,7 @@ use Rattle.syn_tokens.specs.Delimiters.{delimiter_of}
 use Rattle.syn_parse.specs.declared.buffer.first.First.{First}
 use Rattle.syn_parse.specs.declared.buffer.first.First.TheVariants as F
 
--- a stream begins so
+-- the stream starts with a tree of this kind
 abbrev pub Begins : First → Stream → Type 0
 Begins F.Ended end = Unit {0}
 Begins F.Name (leaf (ident x) sp m) = is_keyword x ≡ false

@@ -1,5 +1,5 @@
--- FORMS: what a type is read by. A form is one of the grammar, a token that the grammar doesn't know, or made of forms.
--- `parse` says what is computed of a form, `Derives` what it reads, in the words of the grammar; `Meaning` joins the two.
+-- FORMS: the grammars of types. A form is one of the grammar, a token that the grammar doesn't know, or composed of forms.
+-- `parse` is the parser of a form, `Derives` its derivation relation in terms of the grammar; `Meaning` states that they agree.
 use Rattle.std.specs.Prelude.{◌≡◌, ◌↔◌, ◌⊎◌, ◌<◌, ◌≤◌, Bool, true, false, Some, None, Result, Ok, Err}
 use Rattle.syn_grammar.specs.Words.{Text}
 use Rattle.syn_grammar.specs.Tokens.{Span, Delimiter, ident, Stream, end, leaf, group, visible, same_text, Look, stands, or, and, no}
@@ -18,57 +18,57 @@ use Rattle.syn_tokens.specs.Lists.{Sequence}
 use Rattle.syn_tokens.specs.Listing.{list_of}
 use Rattle.syn_parse.specs.Terminated.{terminated, DerivesList}
 
--- WHAT STANDS NEXT
+-- LOOKAHEAD
 
--- Conditions on what stands next, by which forms choose.
+-- Conditions on the next tokens, by which forms choose.
 pub data Condition : Type 0 where
-  by : Look → Condition  -- a look of the grammar
+  by : Look → Condition  -- a condition of the grammar
   at_keyword : Text → Condition  -- the identifier of this text, whether or not the grammar knows it
-  at_punctuation : Text → Condition  -- these characters, all but the last Joint, whether or not they are a mark of the grammar
+  at_punctuation : Text → Condition  -- these characters, all but the last joint, whether or not they are a mark of the grammar
 
 -- the identifier of this text
 unfoldable pub take_keyword : Text → Parser
 take_keyword x (leaf (ident y) sp r) = only (same_text y x) (Some (Token (ident y) sp, r))
 take_keyword x _ = None
 
--- as it is computed
+-- as the parser computes it
 abbrev pub meets : Condition → Stream → Bool
 meets (by c) ts = sees c ts
 meets (at_keyword x) ts = taken (take_keyword x ts)
 meets (at_punctuation x) ts = taken (take_mark x ts)
 
--- in the words of the grammar
+-- as the grammar states it
 abbrev pub stands_next : Condition → Stream → Bool
 stands_next (by c) ts = stands c ts
 stands_next (at_keyword x) ts = taken (take_keyword x ts)
 stands_next (at_punctuation x) ts = taken (take_mark x ts)
 
--- WHAT IS READ
+-- FORMS
 
 pub data Form : Type 0 where
   of : Grammar → Form  -- a form of the grammar
   keyword : Text → Form  -- the identifier of this text, whether or not the grammar knows it
   ◌followed_by◌ : Form → Form → Form  -- a sequence: one form and then the other
-  choice : Condition → Form → Form → Form  -- the first form where the condition holds of what stands next, else the second
-  in_group : Delimiter → Form → Form  -- a group with this delimiter, whose content the form reads to its end
-  list : Form → Form → Form  -- elements with separators between them, up to the end of the group or stream; the last separator may stand or not
-  such_that : (Syntax → Bool) → Form → Form  -- a form, where its tree passes this test
+  choice : Condition → Form → Form → Form  -- the first form if the condition holds of the next tokens, otherwise the second
+  in_group : Delimiter → Form → Form  -- a group with this delimiter, whose whole content is of the form
+  list : Form → Form → Form  -- elements with separators between them, up to the end of the group or stream; the trailing separator is optional
+  such_that : (Syntax → Bool) → Form → Form  -- a form, restricted to trees that pass this test
 
 infixr 40 ◌followed_by◌
--- a part that stands where the condition holds
+-- a part that is present if the condition holds
 abbrev pub optional : Condition → Form → Form
 optional c f = choice c f (of grammar.empty)
 
--- these characters, all but the last Joint
+-- these characters, all but the last joint
 abbrev pub punctuation : Text → Form
 punctuation x = of (grammar.mark false x)
 
--- an answer whose tree passes the test
+-- the result, if its tree passes the test
 abbrev pub if_tree : (Syntax → Bool) → Out → Out
 if_tree q (Some p) = only (q p.0) (Some p)
 if_tree q None = None
 
--- AS IT IS COMPUTED: a tree and what is left, or none
+-- THE PARSER: a tree and the remaining tokens, or none
 abbrev pub parse : Form → Parser
 parse (of g) = run.parse_form g
 parse (keyword x) = take_keyword x
@@ -78,7 +78,7 @@ parse (in_group d f) = λ ts. within d (take_group d ts) (parse f)
 parse (list f g) = terminated (parse f) (parse g)
 parse (such_that q f) = λ ts. if_tree q (parse f ts)
 
--- IN THE WORDS OF THE GRAMMAR: from the stream ts the form reads a tree of which the value holds s, and r is left
+-- THE DERIVATION: the form derives a tree from the stream ts, whose value holds s, and r remains
 abbrev pub Derives : Form → Syntax → Stream → Stream → Type 0
 Derives (of g) s ts r = DerivesValue g s ts r
 Derives (keyword x) s ts r = (sp : Span) × (s ≡ Token (ident x) sp) × (ts ≡ leaf (ident x) sp r)
@@ -90,12 +90,12 @@ Derives (in_group d f) s ts r = (o c : Span) × (content : Stream) × (a : Synta
 Derives (list f g) s ts r = (l : Sequence Syntax Syntax) × (s ≡ list_of itself itself l.pairs l.last) × (r ≡ end) × DerivesList (Derives f) (Derives g) itself itself l.pairs l.last ts
 Derives (such_that q f) s ts r = (q s ≡ true) × Derives f s ts r
 
--- the form reads nothing here
+-- the form derives nothing from here
 abbrev pub NotDerived : Form → Stream → Type 0
 NotDerived (of g) ts = says.NotDerived g ts
 NotDerived f ts = (s : Syntax) (r : Stream) → Derives f s ts r → ⊥
 
--- by the form some token is read, by its parts alone
+-- the form consumes at least one token, decided from its parts alone
 abbrev pub reads_some : Form → Bool
 reads_some (of g) = no (nullable start_of g)
 reads_some (keyword x) = true
@@ -105,7 +105,7 @@ reads_some (in_group d f) = true
 reads_some (list f g) = false
 reads_some (such_that q f) = reads_some f
 
--- well formed: the unions in forms of the grammar are apart, and the separators of lists read some token
+-- well formed: the alternatives in forms of the grammar exclude each other, and the separators of lists consume a token
 abbrev pub is_sound : Form → Bool
 is_sound (of g) = sound table start_of g
 is_sound (keyword x) = true
@@ -115,42 +115,43 @@ is_sound (in_group d f) = is_sound f
 is_sound (list f g) = and (reads_some g) (and (is_sound f) (is_sound g))
 is_sound (such_that q f) = is_sound f
 
--- WHAT IS COMPUTED IS WHAT IS READ, on visible streams; and on every stream no more tokens are left
+-- THE PARSER AND THE DERIVATION AGREE on visible streams; and on every stream the parser never leaves more tokens
 pub record Meaning (f : Form) : Type 0 where
   pub derived : (ts : Stream) → visible ts ≡ true → (s : Syntax) (r : Stream) → (parse f ts ≡ Some (s, r)) ↔ Derives f s ts r
   pub refused : (ts : Stream) → visible ts ≡ true → (parse f ts ≡ None) ↔ NotDerived f ts
   pub kept : (ts : Stream) (s : Syntax) (r : Stream) → parse f ts ≡ Some (s, r) → left r ≤ left ts
 
--- by it some token is read: fewer are left
+-- the form consumes at least one token: fewer remain
 abbrev pub ParsesSome : Form → Type 0
 ParsesSome f = (ts : Stream) (x : Syntax × Stream) → parse f ts ≡ Some x → left x.1 < left ts
 
--- WHAT IS PROMISED TO CALLERS
+-- THE CONTRACTS OF PUBLIC PARSERS
 
--- on visible streams an answer is what the form reads, and a refusal is one of a stream from which it reads nothing; after an error all is left
+-- on visible streams a value is one that the form derives, and a syntax error means that it derives none; after an error the
+-- stream is unchanged
 abbrev pub Outcome : {X E : Type 0} → (E → Type 0) → (X → Syntax) → Form → Stream → Result X E → Stream → Type 0
 Outcome refusal view f old (Ok x) new = visible old ≡ true → Derives f (view x) old new
 Outcome refusal view f old (Err e) new = (new ≡ old) × (visible old ≡ true → refusal e → NotDerived f old)
 
--- the whole stream is read by the form as a tree of which the value holds this
+-- the form derives from the whole stream a tree whose value holds this
 abbrev pub DerivesWhole : Form → Syntax → Stream → Type 0
 DerivesWhole f s ts = Derives f s ts end
 
--- the whole stream is read by the form as no tree
+-- the form derives no tree from the whole stream
 abbrev pub NotDerivedWhole : Form → Stream → Type 0
 NotDerivedWhole (of g) ts = says.NotDerivedWhole g ts
 NotDerivedWhole f ts = (s : Syntax) → Derives f s ts end → ⊥
 
--- the same of a whole stream
+-- the same for a whole stream
 abbrev pub WholeOutcome : {X E : Type 0} → (E → Type 0) → (X → Syntax) → Form → Stream → Result X E → Type 0
 WholeOutcome refusal view f ts (Ok x) = visible ts ≡ true → DerivesWhole f (view x) ts
 WholeOutcome refusal view f ts (Err e) = visible ts ≡ true → refusal e → NotDerivedWhole f ts
 
--- the stream is no list of these elements and separators
+-- the stream is not a list of these elements and separators
 abbrev pub NotDerivedList : Form → Form → Stream → Type 0
 NotDerivedList f g ts = (l : Sequence Syntax Syntax) → DerivesList (Derives f) (Derives g) itself itself l.pairs l.last ts → ⊥
 
--- on visible streams an answer is such a list, and a refusal is one of a stream that is none
+-- on visible streams a value is such a list, and a syntax error means that the stream is none
 abbrev pub ListOutcome : {T P E : Type 0} → (E → Type 0) → (T → Syntax) → (P → Syntax) → Form → Form → Stream → Result (Sequence T P) E → Type 0
 ListOutcome refusal view separator_view f g ts (Ok l) = visible ts ≡ true → DerivesList (Derives f) (Derives g) view separator_view l.pairs l.last ts
 ListOutcome refusal view separator_view f g ts (Err e) = visible ts ≡ true → refusal e → NotDerivedList f g ts

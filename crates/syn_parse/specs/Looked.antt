@@ -1,4 +1,4 @@
--- What was looked for at one place.
+-- Lookahead at one position.
 use Rattle.std.specs.Prelude.{◌≡◌, ℕ, Bool, true, false, List, [], ◌∷◌, ◌++◌, codes, map, take, refl}
 use Rattle.std.specs.Borrow.{Bor}
 use Rattle.std.specs.Coded.{Coded, code_by, coded×, coded_list, coded_ℕ}
@@ -13,7 +13,7 @@ use Rattle.syn_tokens.specs.declared.span.Span.{Span}
 abbrev pub texts : List (Bor (List ℕ)) → List (List ℕ)
 texts = map (λ text. text.now)
 
--- what stands next there, and what faults say of the names that were missed, the first four
+-- the stream at that position, and the error messages of the names that were tried without success, the first four
 pub record LookaheadValue : Type 0 where
   pub stream : Stream
   pub missed : List (List ℕ)
@@ -24,20 +24,21 @@ coded_lookahead = code_by (Stream × List (List ℕ)) (coded× stream_code (code
 abbrev pub nothing_missed : Stream → LookaheadValue
 nothing_missed ts = record { stream = ts; missed = [] }
 
--- after a look that found it the names are the same; after one that missed it, its own too, if there were fewer than four
+-- after a lookahead that succeeded the names are the same; after one that failed, its own name too, if there were fewer than
+-- four
 abbrev pub MissedBy : Bool → List ℕ → List (List ℕ) → List (List ℕ) → Type 0
 MissedBy true text old new = new ≡ old
 MissedBy false text old new = new ≡ take 4 (old ++ text ∷ [])
 
--- what is said where nothing was looked for
+-- the message if nothing was tried
 abbrev pub unexpected : Stream → List ℕ
 unexpected ts = pick (sees ended ts) (codes "unexpected end of input") (codes "unexpected token")
 
--- a text for each name, or one where there is none
+-- one message for each name, or a single one if there is none
 abbrev pub told : Stream → List (List ℕ) → List (List ℕ)
 told ts [] = unexpected ts ∷ []
 told ts (x ∷ l) = x ∷ l
 
--- there is a fault for each of these texts, in turn, all at the next token
+-- there is a fault for each of these messages, in order, all at the next token
 abbrev pub HasFaultsNext : Stream → List (List ℕ) → List FaultValue → Type 0
 HasFaultsNext ts texts faults = (span : Span) × (faults ≡ map (λ text. (span, text)) texts) × StandsNext ts span

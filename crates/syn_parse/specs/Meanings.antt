@@ -1,4 +1,4 @@
--- EVERY WELL-FORMED FORM MEANS WHAT IS COMPUTED OF IT. (The proof stands here, since the types that are read cite it.)
+-- EVERY WELL-FORMED FORM AGREES WITH ITS PARSER. (The proof is in the specs, since parsed types cite it.)
 use Rattle.std.proofs.Common.{◌≡◌, ◌<◌, ◌≤◌, Bool, true, false, Some, None, ◌⊎◌, inl, inr, refl, sym, ap, ◌∙◌, subst, arith}
 use Rattle.syn_grammar.specs.Words.{Text}
 use Rattle.syn_grammar.specs.Tokens.{Span, Delimiter, ident, literal, Stream, end, leaf, punct, group, and, or, no, is_visible, visible, same_text}
@@ -17,7 +17,7 @@ use Rattle.syn_grammar.proofs.Outcomes.{meaning_of as grammar_means}
 use Rattle.syn_parse.specs.Form.{Condition, by, at_keyword, at_punctuation, take_keyword, meets, stands_next, Form, of, keyword, ◌followed_by◌, choice, in_group, list, such_that, optional, if_tree, parse, Derives, NotDerived, reads_some, is_sound, Meaning}
 use Rattle.syn_parse.specs.TerminatedLists.{Shorter, Law, terminated_is, list_split, list_found, list_falls}
 
--- what a form reads of which token
+-- which token a keyword form parses
 pub keyword_less : (x : Text) (ts : Stream) (y : TreeAndRest) → take_keyword x ts ≡ Some y → left y.1 < left ts
 unfolding take_keyword left
 keyword_less x end y e = absurd (cc e)
@@ -44,7 +44,7 @@ keyword_found : (x : Text) (ts : Stream) (s : Syntax) (r : Stream) → Derives (
 unfolding take_keyword
 keyword_found x ts s r (sp, a, b) = ap (take_keyword x) b ∙ ap (λ w. only w (Some (Token (ident x) sp, r))) (same_text_refl x) ∙ ap (λ w. Some (w, r)) (sym a)
 
--- as it is computed, so it stands
+-- the computed condition agrees with the one that the grammar states
 meets_is : (c : Condition) (ts : Stream) → visible ts ≡ true → meets c ts ≡ stands_next c ts
 meets_is (by c) ts v = sees_is c ts v
 meets_is (at_keyword x) ts v = refl
@@ -55,7 +55,7 @@ behind_seen d o c ts i r e v =
     let w = and_right (is_visible d) _ (ap visible (sym e) ∙ v) in
     (and_left (visible i) _ w, and_right (visible i) _ w)
 
--- what is left of a visible stream is visible
+-- the remaining tokens of a visible stream are visible
 pub seen : (f : Form) (s : Syntax) (ts r : Stream) → Derives f s ts r → visible ts ≡ true → visible r ≡ true
 seen (of g) s ts r (t, a, e) v = rest_seen g t ts r a v
 seen (keyword x) s ts r (sp, e, a) v = ap visible (sym a) ∙ v
@@ -66,7 +66,7 @@ seen (in_group d f) s ts r (o, c, i, a, e, h, x) v = (behind_seen d o c ts i r h
 seen (list f g) s ts r (l, e, h, x) v = ap visible h
 seen (such_that q f) s ts r (h, x) v = seen f s ts r x v
 
--- no more is left, and less where some token is read
+-- no more tokens remain, and fewer if a token is consumed
 less_then : (p : Parser) (ts m : Stream) → left m ≤ left ts → (r : Stream) → left r < left m → left r < left ts
 less_then p ts m h r k = omega (arith, h, k)
 
@@ -80,7 +80,7 @@ inv_tree q (Some p) x e =
     go (Some y) = q y.0
     go None = true
 
--- of a choice: the first form, or the second
+-- a choice takes the first form, or the second
 inv_branch : (b : Bool) (o o' : Out) (x : TreeAndRest) → branch b o o' ≡ Some x →
     ((y : TreeAndRest) × (b ≡ true) × (o ≡ Some y) × (x ≡ (Left y.0, y.1))) ⊎ ((y : TreeAndRest) × (b ≡ false) × (o' ≡ Some y) × (x ≡ (Right y.0, y.1)))
 inv_branch true o o' x e = let z = inv_wrap Left o x e in inl (z.0, refl, z.1, z.2)
@@ -100,7 +100,7 @@ less_of_two : (p q : Parser) (a b : Bool) → Falls p → (a ≡ true → Shorte
 less_of_two p q true b fp sp fq sq w ts y z e k = let h = sp refl ts y e in let l = fq y.1 z k in omega (arith, h, l)
 less_of_two p q false b fp sp fq sq w ts y z e k = let h = fp ts y e in let l = sq w y.1 z k in omega (arith, h, l)
 
--- no more tokens are left, and fewer where some token is read
+-- no more tokens remain, and fewer if a token is consumed
 fewer : (f : Form) → is_sound f ≡ true → Fewer f
 fewer (of g) w = (parse_falls g, λ s ts x e. go (nullable start_of g) s ts x.1 (runs_shrinks parse_rule parse_rule_less g ts x e))
   where
@@ -153,7 +153,7 @@ falls_of f w = (fewer f w).0
 pub shorter_of : (f : Form) → is_sound f ≡ true → reads_some f ≡ true → Shorter (parse f)
 shorter_of f w s = (fewer f w).1 s
 
--- WHAT IS COMPUTED IS WHAT IS READ
+-- THE PARSER AND THE DERIVATION AGREE
 
 choice_told : (c : Condition) (f g : Form) → (ts : Stream) → visible ts ≡ true → (s : Syntax) (r : Stream) →
     ((s : Syntax) (r : Stream) → parse f ts ≡ Some (s, r) → Derives f s ts r) → ((s : Syntax) (r : Stream) → parse g ts ≡ Some (s, r) → Derives g s ts r) →
@@ -258,7 +258,7 @@ law_of (such_that q f) w =
       seen = seen (such_that q f);
     }
 
--- where nothing is computed nothing is read, and the other way round
+-- the parser computes nothing exactly if nothing is derived
 none_is : (f : Form) → Law (parse f) (Derives f) → (ts : Stream) → visible ts ≡ true → parse f ts ≡ None → (s : Syntax) (r : Stream) → Derives f s ts r → ⊥
 none_is f l ts v e s r d = absurd (cc (sym e ∙ l.found ts s r v d))
 
@@ -278,7 +278,7 @@ refused_of (in_group d f) w l ts v = (none_is (in_group d f) l ts v, is_none (in
 refused_of (list f g) w l ts v = (none_is (list f g) l ts v, is_none (list f g) l ts v)
 refused_of (such_that q f) w l ts v = (none_is (such_that q f) l ts v, is_none (such_that q f) l ts v)
 
--- EVERY WELL-FORMED FORM MEANS WHAT IS COMPUTED OF IT
+-- EVERY WELL-FORMED FORM AGREES WITH ITS PARSER
 pub meaning_of : (f : Form) → is_sound f ≡ true → Meaning f
 meaning_of f w =
     let l = law_of f w in
@@ -291,7 +291,7 @@ meaning_of f w =
 pub meaning_of_rule : (k : Rule) → Meaning (of (rule k))
 meaning_of_rule k = meaning_of (of (rule k)) refl
 
--- from its meaning, the law of a form
+-- the law of a form, from its meaning
 pub law_by : (f : Form) → Meaning f → Law (parse f) (Derives f)
 law_by f m = record {
   told = λ ts s r v e. (m.derived ts v s r).0 e;
@@ -300,7 +300,7 @@ law_by f m = record {
   seen = seen f;
 }
 
--- an optional part means what is computed of it, where the part does
+-- an optional part agrees with its parser, if the part does
 pub meaning_of_optional : (c : Condition) (f : Form) → Meaning f → Meaning (optional c f)
 meaning_of_optional c f m =
     let n = meaning_of (of empty) refl in

@@ -1,4 +1,4 @@
--- Where the next token stands.
+-- The position of the next token.
 use Rattle.std.specs.Prelude.{◌≡◌, ℕ, List, [], ◌∷◌}
 use Rattle.syn_grammar.specs.Tokens.{Stream, end, leaf, punct, group}
 use Rattle.syn_tokens.specs.Faults.{FaultValue}
@@ -7,18 +7,18 @@ use Rattle.syn_tokens.specs.declared.span.Span.{Span}
 use Rattle.syn_parse.specs.declared.read.refusal.Refusal.{Refusal}
 use Rattle.syn_parse.specs.declared.read.refusal.Refusal.TheVariants.{Memory, Syntax}
 
--- it stands here, a group by its opening delimiter; where nothing is left, nothing is said
+-- the next token is at this span, a group by its opening delimiter; at the end nothing is claimed
 abbrev pub StandsNext : Stream → Span → Type 0
 StandsNext end s = Unit {0}
 StandsNext (leaf x sp r) s = at s ≡ sp
 StandsNext (punct c j sp r) s = at s ≡ sp
 StandsNext (group d o c i r) s = at s ≡ o
 
--- nothing is read, since there something else stands than this text says
+-- nothing is parsed, since the next token is not the one that this message expects
 abbrev pub RefusedNext : Stream → List ℕ → Refusal → Type 0
 RefusedNext ts text (Memory at) = ⊥
 RefusedNext ts text (Syntax span said) = (said.now ≡ text) × StandsNext ts span
 
--- there is one fault, of this text, at the next token
+-- there is one fault, with this message, at the next token
 abbrev pub HasFaultNext : Stream → List ℕ → List FaultValue → Type 0
 HasFaultNext ts text faults = (span : Span) × (faults ≡ (span, text) ∷ []) × StandsNext ts span

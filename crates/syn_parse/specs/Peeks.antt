@@ -1,8 +1,8 @@
--- WHAT STANDS PAST THE NEXT TREE, where a lifetime counts as one.
+-- THE TOKENS AFTER THE NEXT TREE; a lifetime counts as one tree.
 use Rattle.std.specs.Prelude.{ℕ, Bool, true, false, nat_eq}
 use Rattle.syn_grammar.specs.Tokens.{Stream, end, leaf, punct, group, ident, pick}
 
--- behind a `'` that is joined to an identifier, that identifier too is past
+-- after a `'` that is joint to an identifier, that identifier is skipped too
 abbrev pub past_joined : Stream → Stream
 past_joined (leaf (ident x) sp m) = m
 past_joined ts = ts

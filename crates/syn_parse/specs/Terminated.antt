@@ -1,13 +1,13 @@
--- ELEMENTS WITH SEPARATORS BETWEEN THEM, up to the end of a group or stream. The last separator may stand or not.
+-- ELEMENTS WITH SEPARATORS BETWEEN THEM, up to the end of a group or stream. The trailing separator is optional.
 use Rattle.std.specs.Prelude.{◌≡◌, ◌≢◌, ℕ, zero, suc, List, [], ◌∷◌, Option, Some, None}
 use Rattle.syn_grammar.specs.Tokens.{Stream, end, no, ended}
 use Rattle.syn_grammar.specs.Grammar.{Syntax, Nothing, Node}
 use Rattle.syn_grammar.specs.Take.{Parser, left, sees}
 use Rattle.syn_grammar.specs.Run.{wrap, and_then, branch}
 
--- AS THEY ARE READ
+-- THE PARSER
 
--- nothing where nothing is left; else an element, and where something is left behind it, a separator and the others
+-- nothing at the end; otherwise an element, and if tokens remain after it, a separator and the others
 abbrev pub terminated_step : Parser → Parser → Parser → Parser
 terminated_step element separator others ts =
     wrap Node (branch (sees ended ts) (Some (Nothing, ts)) (and_then (element ts) (λ r. branch (no (sees ended r)) (and_then (separator r) others) (Some (Nothing, r)))))
@@ -20,10 +20,10 @@ terminated_for (suc n) element separator ts = terminated_step element separator 
 unfoldable pub terminated : Parser → Parser → Parser
 terminated element separator ts = terminated_for (suc (left ts)) element separator ts
 
--- IN THE WORDS OF THE GRAMMAR
+-- IN TERMS OF THE GRAMMAR
 
 module _ (element separator : Syntax → Stream → Stream → Type 0) {T P : Type 0} (view : T → Syntax) (separator_view : P → Syntax) where
-  -- the stream is these elements, each with the separator that follows it, and perhaps a last one that none follows
+  -- the stream is these elements, each with the separator after it, and perhaps a last one without
   abbrev pub DerivesList : List (T × P) → Option T → Stream → Type 0
   DerivesList [] None ts = ts ≡ end
   DerivesList [] (Some x) ts = (ts ≢ end) × element (view x) ts end

@@ -1,4 +1,4 @@
--- LISTS UP TO THE END: that what is computed of them is what the grammar says. (It stands here, since Meanings cites it.)
+-- LISTS UP TO THE END: the parser agrees with the grammar. (The proof is in the specs, since Meanings cites it.)
 use Rattle.std.proofs.Common.{◌≡◌, ◌≢◌, ℕ, zero, suc, ◌<◌, ◌≤◌, Bool, true, false, List, [], ◌∷◌, Option, Some, None, ◌⊎◌, inl, inr, refl, sym, ap, ◌∙◌, subst, arith}
 use Rattle.syn_grammar.specs.Tokens.{Stream, end, no, ended, visible}
 use Rattle.syn_grammar.specs.Grammar.{Syntax, Nothing, Node, Left, Right, Both}
@@ -17,7 +17,7 @@ use Rattle.syn_parse.specs.Terminated.{terminated_step, terminated_for, terminat
 abbrev pub Shorter : Parser → Type 0
 Shorter q = (ts : Stream) (x : Syntax × Stream) → q ts ≡ Some x → left x.1 < left ts
 
--- two lists are the same where what stands behind their first elements is
+-- two lists are the same if they are after their first elements
 same_step : (p q others others' : Parser) (ts : Stream) → Falls p → Shorter q → ((us : Stream) → left us < left ts → others us ≡ others' us) → terminated_step p q others ts ≡ terminated_step p q others' ts
 same_step p q others others' ts falls shorter u = ap (λ o. wrap Node (branch (sees ended ts) (Some (Nothing, ts)) o)) (element (p ts) refl)
   where
@@ -29,7 +29,7 @@ same_step p q others others' ts falls shorter u = ap (λ o. wrap Node (branch (s
     element None e = refl
     element (Some y) e = ap (λ o. wrap (Both y.0) (branch (no (sees ended y.1)) o (Some (Nothing, y.1)))) (behind y (falls ts y e) (q y.1) refl)
 
--- so deep is deep enough
+-- any sufficient depth gives the same list
 same_lists : (p q : Parser) → Falls p → Shorter q → (n m : ℕ) (ts : Stream) → left ts < n → left ts < m → terminated_for n p q ts ≡ terminated_for m p q ts
 unfolding terminated_for
 same_lists p q falls shorter zero m ts h k = absurd (omega (arith, h))
@@ -43,7 +43,7 @@ terminated_are p q falls shorter ts =
     same_step p q (terminated_for (left ts) p q) (terminated p q) ts falls shorter
     (λ us l. same_lists p q falls shorter (left ts) (suc (left us)) us (omega (arith, l)) (omega arith))
 
--- a list is nothing, or an element and what stands behind it
+-- a list is nothing, or an element and what follows it
 pub record IsTerminated (p q : Parser) : Type 0 where
   pub is : (ts : Stream) → terminated p q ts ≡ terminated_step p q (terminated p q) ts
 
@@ -60,9 +60,9 @@ terminated_more v w p q law ts x y m n a b c d = law.is ts ∙ rw (a, b) (rw (c,
     go None = refl
     go (Some p) = refl
 
--- WHAT IS READ IS WHAT THE GRAMMAR SAYS
+-- THE PARSER AGREES WITH THE GRAMMAR
 
--- an element is read, and nothing is left
+-- an element, and then the end
 record Lone (p : Parser) (ts : Stream) (x : Syntax × Stream) : Type 0 where
   first : Syntax × Stream
   begun : sees ended ts ≡ false
@@ -136,11 +136,11 @@ same_rest s t r m e = ap (λ (y : Syntax × Stream). y.1) e
 same_both : (s t : Syntax) (r m : Stream) → s ≡ t → r ≡ m → ◌≡◌ {A = Out} (Some (s, r)) (Some (t, m))
 same_both s t r m e f = ap (λ z. Some (z, r)) e ∙ ap (λ z. Some (t, z)) f
 
--- it leaves fewer tokens, so before it something was left
+-- it leaves fewer tokens, so the stream was not empty
 some_left : (ts r m : Stream) → visible ts ≡ true → left m < left r → left r ≤ left ts → ts ≢ end
 some_left ts r m k h l e = let f : left ts ≡ left end = ap left e in omega (arith, h, l, f, end_least m)
 
--- what a parser computes is what a relation says, on visible streams; it leaves no more tokens, and visible ones
+-- the parser computes what the relation derives, on visible streams; it never leaves more tokens, and leaves visible ones
 pub record Law (p : Parser) (D : Syntax → Stream → Stream → Type 0) : Type 0 where
   pub told : (ts : Stream) (s : Syntax) (r : Stream) → visible ts ≡ true → p ts ≡ Some (s, r) → D s ts r
   pub found : (ts : Stream) (s : Syntax) (r : Stream) → visible ts ≡ true → D s ts r → p ts ≡ Some (s, r)
@@ -201,7 +201,7 @@ module _ (p q : Parser) (E S : Syntax → Stream → Stream → Type 0) (lp : La
           followed l.first l.separator l.rest (cc f) (cc f) (cc f) f' l.read l.separated l.goes_on
 
   module _ {T P : Type 0} (v : T → Syntax) (w : P → Syntax) where
-    -- what is read is such a list
+    -- a parsed list is such a list
     pub list_told : (l : List (T × P)) (o : Option T) (ts r : Stream) → visible ts ≡ true → terminated p q ts ≡ Some (list_of v w l o, r) → DerivesList E S v w l o ts
     list_told [] None ts r k e = told_none ts r k e
     list_told [] (Some x) ts r k e = told_last (v x) ts r k e
@@ -209,7 +209,7 @@ module _ (p q : Parser) (E S : Syntax → Stream → Stream → Type 0) (lp : La
         let a = told_more (v x.0) (w x.1) (list_of v w l o) ts r k e in
         (a.0, a.1, a.2, a.3, list_told l o a.1 r a.4 a.5)
 
-    -- such a list is read
+    -- such a list is parsed
     pub list_found : Shorter q → (l : List (T × P)) (o : Option T) (ts : Stream) → visible ts ≡ true → DerivesList E S v w l o ts → terminated p q ts ≡ Some (list_of v w l o, end)
     list_found shrinks [] None ts k a =
         let b : sees ended ts ≡ true = ap (sees ended) a ∙ ended_is in
@@ -231,11 +231,11 @@ module _ (p q : Parser) (E S : Syntax → Stream → Stream → Type 0) (lp : La
         terminated_more v w p q law ts x.0 x.1 r m f e f' e'
         ∙ ap (wrap (λ s. Node (Right (Both (v x.0) (Left (Both (w x.1) s)))))) (list_found shrinks l o m k'' c)
 
-  -- nothing is such a list where nothing is read
+  -- if nothing is parsed, nothing is such a list
   pub list_unread : Shorter q → (ts : Stream) → visible ts ≡ true → terminated p q ts ≡ None → (l : Sequence Syntax Syntax) → DerivesList E S itself itself l.pairs l.last ts → ⊥
   list_unread shrinks ts k e l a = absurd (cc (sym e ∙ list_found itself itself shrinks l.pairs l.last ts k a))
 
-  -- WHATEVER IS READ IS SUCH A LIST
+  -- ALL THAT IS PARSED IS SUCH A LIST
   abbrev pub AsList : Syntax → Stream → Stream → Type 0
   AsList s ts r = (l : Sequence Syntax Syntax) × (s ≡ list_of itself itself l.pairs l.last) × (r ≡ end) × DerivesList E S itself itself l.pairs l.last ts
 
@@ -275,7 +275,7 @@ module _ (p q : Parser) (E S : Syntax → Stream → Stream → Type 0) (lp : La
   pub list_split : Shorter q → (ts : Stream) (s : Syntax) (r : Stream) → visible ts ≡ true → terminated p q ts ≡ Some (s, r) → AsList s ts r
   list_split shrinks ts s r k e = split_of shrinks (suc (left ts)) ts (s, r) (omega arith) k e
 
--- no more is left than there was
+-- no more tokens remain than before
 list_falls_for : (p q : Parser) → Falls p → Shorter q → IsTerminated p q → (n : ℕ) (ts : Stream) (x : Syntax × Stream) → left ts < n → terminated p q ts ≡ Some x → left x.1 ≤ left ts
 unfolding Stepped
 list_falls_for p q falls shorter law zero ts x h e = absurd (omega (arith, h))

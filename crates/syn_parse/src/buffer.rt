@@ -1,4 +1,4 @@
-//! The token trees that are left to read.
+//! Parse buffers: the token trees that are not parsed yet.
 ghost use Rattle.std.specs.Prelude.{◌≡◌, ◌<◌, IfOk, IfErr, OnErr, MatchOption, None, Some, codes};
 ghost use Rattle.syn_grammar.specs.Tokens as grammar;
 ghost use Rattle.syn_grammar.specs.Tokens.{ended};
@@ -35,15 +35,15 @@ mod leaves;
 mod marks;
 mod public;
 
-/// The token trees that are left to read, and where they end.
+/// The remaining token trees, and the span of their end.
 #[derive(Drop)]
 pub struct ParseBuffer<'a> {
     tokens: Cursor<'a>,
     end: Span,
     alloc: Global,
-    /// How many KiB of stack are left to what is read. No contract speaks of it.
+    /// How many KiB of stack the parsers may still use. No contract covers it.
     stack_left: u32,
-    /// Whether the chains in what is left were counted, and are short enough. No contract speaks of it.
+    /// Whether the chains in the remaining tokens were counted, and are short enough. No contract covers it.
     chains_fit: bool,
 }
 
@@ -58,7 +58,7 @@ impl<'a> Model for ParseBuffer<'a> {
     ghost view = { λ b. b.tokens };
 }
 
-/// Where the last of these entries ends: an empty span behind it, 0 to 0 where there is none.
+/// The empty span after the last of these entries; 0 to 0 if there is none.
 fn end_of(entries: &[Entry]) -> Span {
     let end = match entries.last() {
         Some(entry) => entry.span().end,
@@ -67,7 +67,7 @@ fn end_of(entries: &[Entry]) -> Span {
     Span { start: end, end }
 }
 
-/// What is left past a tree; where that is the `'` of a lifetime, past its identifier too.
+/// The remaining tokens after a tree; if that is the `'` of a lifetime, after its identifier too.
 fn past_next<'a>(next: &TokenTreeRef<'_>, rest: Cursor<'a>) -> Cursor<'a>
     ensures { result ≡ past (before_next next.now rest.entry) }
 {
@@ -79,7 +79,7 @@ fn past_next<'a>(next: &TokenTreeRef<'_>, rest: Cursor<'a>) -> Cursor<'a>
     }
 }
 
-/// What is left past a mark's character; where that makes a lifetime, past its identifier too.
+/// The remaining tokens after a mark's character; if that starts a lifetime, after its identifier too.
 fn past_mark<'a>(punct: &Punct, rest: Cursor<'a>) -> Cursor<'a>
     ensures { result ≡ peeks.past_mark punct.now.character (is_joint punct.now.spacing) rest.entry }
 {
@@ -96,7 +96,7 @@ fn past_mark<'a>(punct: &Punct, rest: Cursor<'a>) -> Cursor<'a>
 }
 
 impl<'a> ParseBuffer<'a> {
-    /// All of a stream.
+    /// A buffer over a whole stream.
     pub fn new(stream: &'a TokenStream) -> ParseBuffer<'a>
         ensures { result ≡ stream.now }
     {
@@ -109,7 +109,7 @@ impl<'a> ParseBuffer<'a> {
         }
     }
 
-    /// A buffer of its own over what is left.
+    /// Another buffer at the same position.
     pub fn fork(&self) -> ParseBuffer<'a>
         ensures { result ≡ self.now }
     {
@@ -122,7 +122,7 @@ impl<'a> ParseBuffer<'a> {
         }
     }
 
-    /// Goes on where the other buffer stands.
+    /// Continues at the position of the other buffer.
     pub fn advance_to(&mut self, fork: &ParseBuffer<'a>)
         ensures { self.new ≡ fork.now }
     {
@@ -131,43 +131,43 @@ impl<'a> ParseBuffer<'a> {
         self.chains_fit = fork.chains_fit;
     }
 
-    /// What is left, as a cursor, which sees one token tree after another and reads nothing.
+    /// A cursor over the remaining token trees, which consumes nothing.
     pub fn cursor(&self) -> Cursor<'a>
         ensures { result ≡ self.now }
     {
         self.tokens.fork()
     }
 
-    /// Where what is read takes its memory from.
+    /// The allocator for the results of parsers.
     pub fn alloc(&self) -> Global {
         self.alloc
     }
 
-    /// How many KiB of stack are left to what is read.
+    /// How many KiB of stack the parsers may still use.
     pub fn stack_left(&self) -> u32 {
         self.stack_left
     }
 
-    /// Has what is read take no more stack than so many KiB.
+    /// Limits the stack of the parsers to so many KiB.
     pub fn set_stack_left(&mut self, kib: u32)
         ensures { self.new ≡ self.old }
     {
         self.stack_left = kib;
     }
 
-    /// Whether the chains in what is left (operators, postfixes and casts) were counted, and are short enough.
+    /// Whether the chains in the remaining tokens (operators, postfixes and casts) were counted, and are short enough.
     pub fn chains_fit(&self) -> bool {
         self.chains_fit
     }
 
-    /// Keeps that the chains in what is left are short enough.
+    /// Records that the chains in the remaining tokens are short enough.
     pub fn set_chains_fit(&mut self)
         ensures { self.new ≡ self.old }
     {
         self.chains_fit = true;
     }
 
-    /// Whether nothing is left.
+    /// Whether no tokens remain.
     #[tactic(auto, using(syn_grammar::proofs::Looks::sees_ended))]
     pub fn is_empty(&self) -> bool
         ensures { result ≡ sees ended self.now }
@@ -175,8 +175,8 @@ impl<'a> ParseBuffer<'a> {
         self.tokens.is_empty()
     }
 
-    /// Where the next token stands; at the end of a group its closing delimiter, at the end of a stream the empty span
-    /// behind its last tree.
+    /// The span of the next token; at the end of a group the closing delimiter, at the end of a stream the empty span after its
+    /// last tree.
     #[tactic(auto, using(crate::proofs::Nexts::first_stands))]
     pub fn span(&self) -> Span
         ensures { StandsNext self.now result }
@@ -187,7 +187,7 @@ impl<'a> ParseBuffer<'a> {
         }
     }
 
-    /// The refusal that something else stands next than was expected.
+    /// The refusal for a next token other than the expected one.
     pub fn refusal(&self, text: &'static str) -> Refusal
         ensures syntax { IsSyntax result }
         ensures next { RefusedNext self.now text.now result }
@@ -198,28 +198,28 @@ impl<'a> ParseBuffer<'a> {
         }
     }
 
-    /// Whether a `T` stands next.
+    /// Whether the next token is a `T`.
     pub fn peek<T: Peek>(&self) -> bool
         ensures { result ≡ meets T.look self.now }
     {
         T::peek(self)
     }
 
-    /// Whether a `T` stands past the next tree, where a lifetime counts as one.
+    /// Whether a `T` follows after the next tree; a lifetime counts as one tree.
     pub fn peek2<T: Peek>(&self) -> bool
         ensures { result ≡ meets T.look (past self.now) }
     {
         T::peek(&self.past())
     }
 
-    /// Whether a `T` stands past the next two trees, where a lifetime counts as one.
+    /// Whether a `T` follows after the next two trees; a lifetime counts as one tree.
     pub fn peek3<T: Peek>(&self) -> bool
         ensures { result ≡ meets T.look (past (past self.now)) }
     {
         T::peek(&self.past().past())
     }
 
-    /// What is left past the next tree, where a lifetime counts as one.
+    /// The remaining tokens after the next tree; a lifetime counts as one tree.
     fn past(&self) -> ParseBuffer<'a>
         ensures { result ≡ past self.now }
     {
@@ -236,7 +236,7 @@ impl<'a> ParseBuffer<'a> {
         }
     }
 
-    /// The refusal that something else stands past the next tree than was expected.
+    /// The refusal for a token after the next tree other than the expected one.
     pub fn refusal_behind(&self, text: &'static str) -> Refusal
         ensures syntax { IsSyntax result }
         ensures behind { RefusedNext (past self.now) text.now result }
@@ -244,7 +244,7 @@ impl<'a> ParseBuffer<'a> {
         self.past().refusal(text)
     }
 
-    /// Reads a `T`, as a part of what a rule reads.
+    /// Parses a `T`, as a part of a rule.
     pub fn read<T: Read>(&mut self) -> Parsed<T>
         ensures reads { Computes IsSyntax T.syntax (parse T.form self.old) result self.new }
         ensures moved { Takes T.takes self.old result self.new }
@@ -252,7 +252,8 @@ impl<'a> ParseBuffer<'a> {
         T::read(self)
     }
 
-    /// Reads a group with these delimiters: its delimiters, and its content. Where it is refused, nothing is read.
+    /// Parses a group with these delimiters: returns its delimiters, and a buffer over its content. On failure nothing is
+    /// consumed.
     pub fn read_group<K: DelimiterKind>(&mut self) -> Parsed<(Delimiters<K>, ParseBuffer<'a>)>
         ensures reads { ComputesOpened IsSyntax (take_group K.delimiter self.old) result self.new }
         ensures moved { Takes 1 self.old result self.new }
@@ -275,7 +276,7 @@ impl<'a> ParseBuffer<'a> {
         Ok((Delimiters::new(group.opening, group.closing), content))
     }
 
-    /// The content of the group with these delimiters that stands next; nothing is read.
+    /// A buffer over the content of the next tree, if that is a group with these delimiters; nothing is consumed.
     pub fn peek_group<K: DelimiterKind>(&self) -> Option<ParseBuffer<'a>>
         ensures { MatchOption result (take_group K.delimiter self.now ≡ None) (λ b. content_of (take_group K.delimiter self.now) ≡ Some b) }
     {
@@ -289,7 +290,7 @@ impl<'a> ParseBuffer<'a> {
         })
     }
 
-    /// The end of a group or stream; refused where something is left.
+    /// Checks that the group or stream ends here.
     #[tactic(auto, unfolding(syn_grammar::specs::Take::is_end))]
     pub fn read_end(&self) -> Parsed<()>
         ensures end { Finished IsSyntax self.now result }

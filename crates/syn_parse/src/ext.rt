@@ -1,4 +1,4 @@
-//! Calls that types of `syn_tokens` have besides, once tokens are read.
+//! Extension methods for types of `syn_tokens` that need a parse buffer.
 ghost use Rattle.std.specs.Prelude.{◌≡◌, IfErr, OnErr, codes};
 ghost use Rattle.syn_grammar.specs.Grammar.{identifier};
 ghost use Rattle.syn_grammar.specs.Take.{take_token};
@@ -11,10 +11,10 @@ use crate::buffer::ParseBuffer;
 use syn_tokens::error::Result;
 use syn_tokens::ident::Ident;
 
-/// What an identifier has besides.
+/// Extension methods of identifiers.
 pub trait IdentExt {
-    /// Parses any identifier, also a keyword or `_`. It is refused where none stands next, with the fault `expected
-    /// identifier` at the next token, and where memory is refused; nothing is read then.
+    /// Parses any identifier, including keywords and `_`. If there is none, fails with `expected identifier` at the next token;
+    /// fails also if memory is refused. On failure nothing is consumed.
     fn parse_any(input: &mut ParseBuffer<'_>) -> Result<Ident>
         ensures reads { Computes IsSyntaxError syntax_of_ident (take_token identifier input.old) result input.new }
         ensures moved { Takes 1 input.old result input.new }

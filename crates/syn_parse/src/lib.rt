@@ -1,4 +1,4 @@
-//! Buffers of tokens, and what is read and parsed from them.
+//! Parse buffers, and the parsers of tokens, lists and groups.
 #![tactic(auto)]
 
 pub mod buffer;

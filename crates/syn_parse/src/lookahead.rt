@@ -1,4 +1,4 @@
-//! What was looked for at one place of a buffer.
+//! Lookahead at one position of a buffer, with an error for all that was tried.
 ghost use Rattle.std.specs.Prelude.{◌≡◌, [], ◌∷◌, ◌++◌, ◌≤◌, length, take};
 ghost use Rattle.syn_parse.specs.Form.{meets};
 ghost use Rattle.syn_parse.specs.Looked.{HasFaultsNext, MissedBy, texts, told, unexpected};
@@ -8,10 +8,10 @@ use crate::read::Peek;
 use std::marker::Model;
 use syn_tokens::error::Error;
 
-/// How many names an error can tell.
+/// The largest number of names in an error.
 const MOST: usize = 4;
 
-/// A place in a buffer, and what was looked for there and didn't stand next: the first four names.
+/// A position in a buffer, and the names of the tokens that were tried there without success: the first four.
 #[derive(Drop)]
 pub struct Lookahead1<'a> {
     buffer: ParseBuffer<'a>,
@@ -35,7 +35,7 @@ impl<'a> Model for Lookahead1<'a> {
 impl<'a> ParseBuffer<'a> {
     ghost use Rattle.syn_parse.specs.Looked.{nothing_missed};
 
-    /// Begins to look for what stands next, at this place of the buffer. It takes no memory.
+    /// Starts a lookahead at this position of the buffer. It allocates nothing.
     pub fn lookahead1(&self) -> Lookahead1<'a>
         ensures { result ≡ nothing_missed self.now }
     {
@@ -48,8 +48,8 @@ impl<'a> ParseBuffer<'a> {
 }
 
 impl<'a> Lookahead1<'a> {
-    /// Whether a `T` stands next. Where it doesn't, its name is kept for the error, if there are fewer than four. It
-    /// takes no memory.
+    /// Whether the next token is a `T`. If not, the name of `T` is recorded for the error, if there are fewer than four. It
+    /// allocates nothing.
     pub fn peek<T: Peek>(&mut self) -> bool
         ensures seen { result ≡ meets T.look self.old.stream }
         ensures place { self.new.stream ≡ self.old.stream }
@@ -62,7 +62,7 @@ impl<'a> Lookahead1<'a> {
         false
     }
 
-    /// One name more, where there are fewer than four.
+    /// Records a name, if there are fewer than four.
     fn miss(&mut self, name: &'static str)
         ensures { self.new ≡ record self.old { missed = take 4 (self.old.missed ++ name.now ∷ []) } }
     {
@@ -72,9 +72,9 @@ impl<'a> Lookahead1<'a> {
         }
     }
 
-    /// The error that nothing which was looked for stands next: at the next token, for each of the first four names a
-    /// fault such as ``expected `struct` ``; where none was looked for, the fault `unexpected token`, or at the end of a
-    /// group or stream `unexpected end of input`. It takes no memory.
+    /// The error that none of the tried tokens is next: at the next token, one fault such as ``expected `struct` `` for each of
+    /// the first four names; if none was tried, `unexpected token`, or `unexpected end of input` at the end of a group or
+    /// stream. It allocates nothing.
     pub fn error(self) -> Error
         ensures { HasFaultsNext self.entry.stream (told self.entry.stream self.entry.missed) result }
     {
@@ -89,7 +89,7 @@ impl<'a> Lookahead1<'a> {
         error
     }
 
-    /// The names that were missed.
+    /// The names that were tried without success.
     fn missed(&self) -> &[&'static str]
         ensures names { texts result.now ≡ self.now.missed }
         ensures few { length result.now ≤ 4 }
@@ -97,7 +97,7 @@ impl<'a> Lookahead1<'a> {
         &self.missed[..self.count]
     }
 
-    /// That anything stands next, or nothing.
+    /// The error message for any next token, or for none.
     fn unexpected(&self) -> &'static str
         ensures { result.now ≡ unexpected self.now.stream }
     {

@@ -1,4 +1,4 @@
-//! What callers parse.
+//! The public parsers.
 ghost use Rattle.std.specs.Prelude.{◌≡◌, ℕ, OnErr};
 ghost use Rattle.syn_grammar.specs.Promises.{Computes, Takes, Kept};
 ghost use Rattle.syn_parse.specs.Form.{Form, parse, Meaning, Outcome, WholeOutcome};
@@ -14,16 +14,16 @@ mod terminated;
 
 pub use terminated::Separator;
 
-/// What can be parsed from the front of a buffer.
+/// Types that can be parsed from the front of a buffer.
 pub trait Parse: Syntactic {
-    /// What it is read by: a form of the grammar, or one made of forms.
+    /// The form that is parsed: one of the grammar, or one composed of forms.
     ghost form: { Form };
 
-    /// How many tokens are read at least.
+    /// The least number of tokens that are consumed.
     ghost takes: { ℕ } = { 0 };
 
-    /// Parses it from the front of the buffer. Where the tokens are no such thing, or memory is refused, the buffer
-    /// stands where it stood.
+    /// Parses a value from the front of the buffer. If the tokens don't match, or memory is refused, the buffer keeps its
+    /// position.
     fn parse(input: &mut ParseBuffer<'_>) -> Result<Self>
         ensures outcome { Outcome IsSyntaxError Self.syntax form input.old result input.new }
         ensures reads { Computes IsSyntaxError Self.syntax (parse form input.old) result input.new }
@@ -31,7 +31,7 @@ pub trait Parse: Syntactic {
         ensures kept { Kept input.old result input.new }
         ensures moved { Takes takes input.old result input.new };
 
-    /// What is computed of the form is what it reads.
+    /// The parser of the form computes exactly what the form derives.
     ghost meaning: { Meaning form };
 }
 
@@ -51,9 +51,9 @@ impl<T: Read> Parse for T {
     ghost meaning = { T.meaning };
 }
 
-/// Parses a whole stream as a `T`, each invisible group in it as it stands. It is refused where the tokens are no `T`,
-/// with a fault at a token that can't stand there; where something is left behind a `T`, with the fault `unexpected
-/// token` at its first token; and where memory is refused. `syn_whole::parse2` opens invisible groups where it has to.
+/// Parses a whole stream as a `T`; invisible groups are kept. Fails if the tokens are not a `T`, with a fault at an unexpected
+/// token; if tokens remain after a `T`, with `unexpected token` at the first of them; and if memory is refused.
+/// `syn_whole::parse2` opens invisible groups if it has to.
 pub fn parse_whole<T: Parse + Drop>(tokens: &TokenStream) -> Result<T>
     ensures { WholeOutcome IsSyntaxError T.syntax T.form tokens.now result }
 {

@@ -1,4 +1,4 @@
-//! What can be looked for, and what rules read.
+//! Lookahead, and the parsers of rules.
 ghost use Rattle.std.specs.Prelude.{◌≡◌, ℕ, codes};
 ghost use Rattle.syn_grammar.specs.Words.{Text};
 ghost use Rattle.syn_grammar.specs.Tokens.{ended};
@@ -19,41 +19,41 @@ mod token;
 
 pub use token::ReadMark;
 
-/// What can be looked for at the front of a buffer.
+/// Tokens that can be tested at the front of a buffer.
 pub trait Peek {
-    /// The condition on what stands next that asks for it: a look of the grammar, or one that the grammar doesn't know.
+    /// The lookahead that `peek` tests.
     ghost look: { Condition };
 
-    /// What a fault says where it was expected.
+    /// The error message if it is missing.
     ghost fault: { Text };
 
-    /// Whether it stands next.
+    /// Whether it is next.
     fn peek(input: &ParseBuffer<'_>) -> bool
         ensures { result ≡ meets look input.now };
 
-    /// The text of that fault.
+    /// The text of that message.
     fn expected() -> &'static str
         ensures { result.now ≡ fault };
 }
 
-/// What the parsers of rules read.
+/// Types that rules of the grammar parse.
 pub trait Read: Syntactic {
-    /// What it is read by: a form of the grammar, or one made of forms.
+    /// The form that is parsed: one of the grammar, or one composed of forms.
     ghost form: { Form };
 
-    /// How many tokens are read at least.
+    /// The least number of tokens that are consumed.
     ghost takes: { ℕ } = { 1 };
 
-    /// Reads it from the front of the buffer, or is refused; then nothing is said of what is left.
+    /// Parses a value from the front of the buffer. On failure the position of the buffer is unspecified.
     fn read(input: &mut ParseBuffer<'_>) -> Parsed<Self>
         ensures reads { Computes IsSyntax Self.syntax (parse form input.old) result input.new }
         ensures moved { Takes takes input.old result input.new };
 
-    /// What is computed of the form is what it reads.
+    /// The parser of the form computes exactly what the form derives.
     ghost meaning: { Meaning form };
 }
 
-/// `None` where it does not stand next.
+/// `None` if it is not next.
 impl<T: Peek + Read> Read for Option<T> {
     ghost form = { optional T.look T.form };
 
@@ -83,7 +83,7 @@ impl<T: Read + Drop> Read for Box<T> {
     ghost meaning = { T.meaning };
 }
 
-/// The end of what is to be read.
+/// The end of a group or stream.
 pub struct End;
 
 impl Peek for End {

@@ -1,4 +1,4 @@
--- The patterns of a tuple: where they aren't one without a comma, they are printed as they stand. A name behind `ref` or `mut`. A
+-- The patterns of a tuple: unless it is one pattern without a comma, they are printed as they are. A name after `ref` or `mut`. A
 -- pattern with its type, compared with another.
 use Rattle.std.proofs.Common.{◌≡◌, ◌≢◌, ◌⊎◌, inl, inr, Bool, true, false, List, [], ◌∷◌, Option, Some, None, refl, sym, ap, ap₂, ◌∙◌, subst, true≢false}
 use Rattle.syn_grammar.specs.Words.{w_mut, w_ref}
@@ -25,7 +25,7 @@ tuple_list [] (Some t) (inl n) = absurd (n refl)
 tuple_list [] (Some t) (inr e) = absurd (cc e)
 tuple_list (x ∷ l) o h = refl
 
--- A NAME BEHIND `ref` OR `mut`
+-- A NAME AFTER `ref` OR `mut`
 
 -- what is read, and what is left
 abbrev tree : Out → Syntax
@@ -36,7 +36,7 @@ abbrev left_of : Out → Stream
 left_of (Some p) = p.1
 left_of None = end
 
--- where an optional word was read as none, it doesn't stand there, and all is left
+-- if an optional word was read as none, it isn't there, and everything is left
 absent : (b : Bool) (o : Out) (ts r : Stream) → branch b o (Some (Nothing, ts)) ≡ Some (Right Nothing, r) → (b ≡ false) × (ts ≡ r)
 absent true (Some p) ts r e = absurd (cc (ap tree e))
 absent true None ts r e = absurd (cc e)
@@ -62,7 +62,7 @@ untyped ts s r e = go _ (sym (pattern_is ts) ∙ e)
     go (Some p) h = subst (λ z. local_pattern z ≡ Both z (Right Nothing)) (ap tree h) refl
     go None h = absurd (cc h)
 
--- another pattern stands in a node
+-- another pattern is in a node
 pub before_typed : (p q : Pat-m.the_data) (typed s : Syntax) (b : Bool) → syntax_of_Pat p ≡ Node s → syntax_of_Pat q ≡ typed →
     ((s : Syntax) → b ≡ same_syntax (Node s) typed) → b ≡ same_syntax (syntax_of_Pat p) (syntax_of_Pat q)
 before_typed p q typed s b h k turned = turned s ∙ ap₂ same_syntax (sym h) (sym k)

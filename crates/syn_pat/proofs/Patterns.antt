@@ -10,7 +10,7 @@ use Rattle.syn_tokens.specs.Leaves.{maybe}
 use Rattle.syn_lower.specs.Sizes.{tree_size}
 use Rattle.syn_pat.specs.Patterns.{behind_attributes, bound_name, local_pattern}
 
--- A NAME, perhaps behind `ref` or `mut`
+-- A NAME, perhaps after `ref` or `mut`
 
 pub print_bound : (r : Option Ref) (m : Option Mut) (s : Syntax) →
     print (bound_name (maybe ref_syntax r) (maybe mut_syntax m) s) ≡ print (maybe ref_syntax r) ⧺ (print (maybe mut_syntax m) ⧺ print s)
@@ -39,17 +39,17 @@ same_bound None None (Some m) None s t = refl
 same_bound None None None (Some n) s t = refl
 same_bound None None None None s t = and_true (same_syntax s t)
 
--- BEHIND ATTRIBUTES
+-- AFTER ATTRIBUTES
 
-pub print_behind : (attrs s : Syntax) → print (behind_attributes attrs s) ≡ print attrs ⧺ print s
-print_behind (Node (Right (Unshown Nothing))) s = refl
-print_behind attrs s = refl
+pub print_after : (attrs s : Syntax) → print (behind_attributes attrs s) ≡ print attrs ⧺ print s
+print_after (Node (Right (Unshown Nothing))) s = refl
+print_after attrs s = refl
 
-pub behind_smaller : (attrs s : Syntax) → tree_size s ≤ tree_size (behind_attributes attrs s)
-behind_smaller (Node (Right (Unshown Nothing))) s = omega arith
-behind_smaller attrs s = omega arith
+pub after_smaller : (attrs s : Syntax) → tree_size s ≤ tree_size (behind_attributes attrs s)
+after_smaller (Node (Right (Unshown Nothing))) s = omega arith
+after_smaller attrs s = omega arith
 
--- a pattern with its type: behind it no attributes are taken for it
+-- a pattern followed by its type: no attributes are taken for it
 module _ (s t x y : Syntax) where
   abbrev first_typed : Syntax → Syntax
   first_typed attrs = behind_attributes attrs (Both s (Left x))
@@ -93,7 +93,7 @@ pub apart_untyped : (s attrs t x : Syntax) → same_syntax (behind_attributes at
 apart_untyped s (Node (Right (Unshown Nothing))) t x = and_false (same_syntax t s)
 apart_untyped s attrs t x = and_false (same_syntax attrs s)
 
--- with its type a pattern stands as it is
+-- a pattern with its type is printed as it is
 pub typed_local : (attrs t x : Syntax) → local_pattern (behind_attributes attrs (Both t (Left x))) ≡ behind_attributes attrs (Both t (Left x))
 typed_local (Node (Right (Unshown Nothing))) t x = refl
 typed_local attrs t x = refl

@@ -1,4 +1,4 @@
--- WHAT SYNTAX A MACRO STANDS FOR.
+-- THE SYNTAX OF A MACRO.
 use Rattle.syn_grammar.specs.Tokens.{Stream, Paren, Brace, Bracket}
 use Rattle.syn_grammar.specs.Grammar.{Syntax, Both, Left, Right, Node, Raw}
 use Rattle.syn_tokens.specs.Kinds.{not_syntax}

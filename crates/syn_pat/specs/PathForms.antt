@@ -17,20 +17,20 @@ use Rattle.syn_lower.specs.TypeForms.{other_word_form}
 
 -- PATHS
 
--- the arguments of a word, where `::` and `<` stand next
+-- the arguments of a word, where `::` and `<` are next
 abbrev pub turbofish_form : Grammar
 turbofish_form = shaped untagged (when at_turbofish then rule type_arguments else empty)
 
--- a word behind which arguments may stand
+-- a word that may have arguments
 abbrev pub named_word_form : Grammar
 named_word_form = asking (name_or (w_Self_type ∷ [])) & turbofish_form
 
 abbrev pub word_form : Grammar
 word_form = shaped untagged (when at_named_word then named_word_form else other_word_form)
 
--- what stands behind the type of a qualified path, and its trait: `>`, `::` and words
-abbrev pub behind_trait_form : Grammar
-behind_trait_form = punctuation greater & punctuation colons & rule expression_words
+-- what follows the type of a qualified path, and its trait: `>`, `::` and words
+abbrev pub after_trait_form : Grammar
+after_trait_form = punctuation greater & punctuation colons & rule expression_words
 
 -- a path, of its `::` and its words
 abbrev pub path_syntax : Option PathSep → List (Syntax × PathSep) → Option Syntax → Syntax
@@ -49,15 +49,15 @@ any_group_form = when at_paren then raw Paren else when at_bracket then raw Brac
 abbrev pub wild_form : Grammar
 wild_form = plainly (word w_underscore)
 
--- a path, and patterns in parentheses behind it or none
+-- a path, and patterns in parentheses after it or none
 abbrev pub path_pattern_form : Grammar
 path_pattern_form = rule path_as_expression & (when at_paren then inside Paren (rule patterns) else empty)
 
--- a name behind `ref` or `mut` or both
+-- a name after `ref` or `mut` or both
 abbrev pub binding_form : Grammar
 binding_form = optional w_ref & optional w_mut & plainly name
 
--- a name, behind which no `::` stands
+-- a name without `::` after it
 abbrev pub name_form : Grammar
 name_form = asking name & (when at_colons then never else empty)
 
@@ -65,11 +65,11 @@ name_form = asking name & (when at_colons then never else empty)
 abbrev pub type_form : Grammar
 type_form = punctuation colon & rule type
 
--- a pattern with a type behind a colon, or without one
+-- a pattern with a type after a colon, or without one
 abbrev pub typed_form : Grammar
 typed_form = rule pattern & (when at_colon then type_form else empty)
 
--- such a pattern, by what is read behind it
+-- such a pattern, by what is read after it
 abbrev pub as_typed : Syntax → Out → Out
 as_typed s o = wrap (Both s) (wrap Left o)
 

@@ -1,4 +1,4 @@
--- WHAT SYNTAX PATTERNS STAND FOR, one level at a time, every field.
+-- THE SYNTAX OF PATTERNS, one level at a time, every field.
 use Rattle.std.specs.Prelude.{Option}
 use Rattle.syn_grammar.specs.Tokens.{Paren}
 use Rattle.syn_grammar.specs.Promises.{itself}
@@ -19,7 +19,7 @@ use Rattle.syn_pat.specs.declared.pat.PatTupleStruct.TheInside as PatTupleStruct
 use Rattle.syn_pat.specs.declared.pat.PatType.TheInside as PatType-in
 use Rattle.syn_pat.specs.declared.pat.PatWild.TheInside as PatWild-in
 
--- A pattern, by the alternatives of its rule. One with its type stands only in a local, which tells its parts.
+-- A pattern, by the alternatives of its rule. One with its type is only in a local, which determines its parts.
 abbrev pub in_parentheses : Syntax → Syntax
 in_parentheses s = Node (Right (Left s))
 
@@ -35,12 +35,12 @@ syntax_of_Pat (Pat-m.TupleStruct p) = by_path p
 syntax_of_Pat (Pat-m.Ident p) = Node (Right (Right (Right p)))
 syntax_of_Pat (Pat-m.Ty p) = p
 
--- what stands behind attributes, which no parser gives a pattern
+-- what follows attributes, which no parser gives a pattern
 abbrev pub behind_attributes : Syntax → Syntax → Syntax
 behind_attributes (Node (Right (Unshown Nothing))) s = s
 behind_attributes attrs s = Both attrs s
 
--- a name alone, or behind `ref` or `mut`
+-- a name alone, or after `ref` or `mut`
 abbrev pub bound_name : Syntax → Syntax → Syntax → Syntax
 bound_name (Right Nothing) (Right Nothing) name = Right (Both name (Right Nothing))
 bound_name by_ref mutability name = Left (Both by_ref (Both mutability name))

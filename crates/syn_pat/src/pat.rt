@@ -55,7 +55,7 @@ pub struct PatPath {
     pub path: Path,
 }
 
-/// A tuple. One value without a comma behind it is printed with one, since it would be a pattern in parentheses else.
+/// A tuple. One value without a comma after it is printed with one, since it would be a pattern in parentheses else.
 #[cycle(patterns)]
 #[derive(Drop)]
 pub struct PatTuple {
@@ -90,7 +90,7 @@ pub struct PatWild {
     pub underscore_token: Underscore,
 }
 
-/// Behind one pattern alone a comma is printed in any case.
+/// After one pattern alone a comma is printed in any case.
 impl PrintNested<Pat> for PatTuple {
     #[tactic(auto, using(syn_tokens::proofs::Prints::groups, syn_lower::proofs::Types::print_elements, syn_lower::proofs::Smaller::lists))]
     fn print_nested<N: PrintOf<Pat>>(

@@ -1,4 +1,4 @@
--- By which character a literal, a comment or an identifier begins.
+-- The first characters of literals, comments and identifiers.
 use Rattle.std.proofs.Common.{◌≡◌, ℕ, Bool, true, false, ◌&&◌, ◌||◌, ◌==◌, ◌<◌, List, ◌∷◌, refl, sym, ap, ◌∙◌, true≢false, lit<}
 use Rattle.std.proofs.lemmas.Bool.{eqb-true}
 use Rattle.std.specs.Char.{is_ascii_digit, is_ascii_alphabetic}
@@ -9,7 +9,7 @@ use Rattle.syn_tokens.specs.Punct.{is_punct_character}
 use Rattle.syn_reader.specs.Scanning.{Absent, first_passes, is_comment_sign, drop_while, begins_comment, begins_raw_name, after_word, begins_raw_string, begins_byte, closed, after_quote, after_raw_string, raw_string_at, prefixed_at, after_b, literal_from, lettered, number_at}
 use Rattle.syn_tokens.specs.declared.literal.LitKind.TheVariants.{Str, ByteStr, CStr}
 
--- a character that passes isn't one that doesn't
+-- a character that passes differs from one that doesn't
 apart : (test : ℕ → Bool) (c d : ℕ) → test c ≡ true → test d ≡ false → (c == d) ≡ false
 apart test c d h g = go (c == d) refl
   where
@@ -37,7 +37,7 @@ unfolding literal_from lettered is_punct_character
 mark_from c cs h a d =
     rw (apart is_punct_character c 34 h refl, a, d, apart is_punct_character c 114 h refl, apart is_punct_character c 98 h refl, apart is_punct_character c 99 h refl) refl
 
--- no literal begins with any other letter
+-- no literal starts with any other letter
 pub other_letter : (c : ℕ) (cs : List ℕ) → may_start c ≡ true → is_ascii_digit c ≡ false → (c ≡ 114 → ⊥) → (c ≡ 98 → ⊥) → (c ≡ 99 → ⊥) → literal_from c cs ≡ Absent
 unfolding lettered
 other_letter c cs h d r b s = name_from c cs h d ∙ (rw (differs c 114 r, differs c 98 b, differs c 99 s) refl)
@@ -46,7 +46,7 @@ pub quote_from : (cs : List ℕ) → literal_from 34 cs ≡ closed Str (after_qu
 unfolding literal_from
 quote_from cs = refl
 
--- behind `c`, `b` and `r`
+-- after `c`, `b` and `r`
 pub c_from : (cs : List ℕ) → literal_from 99 cs ≡ prefixed_at CStr cs
 unfolding literal_from lettered
 c_from cs = refl
@@ -71,7 +71,7 @@ letter_starts c l h = go (c == 95)
     go true = refl
     go false = is_xid_start-ascii c l ∙ h
 
--- a comment begins by `/`
+-- a comment starts with `/`
 pub comment_slash : (c : ℕ) (cs : List ℕ) → begins_comment (c ∷ cs) ≡ true → c ≡ 47
 unfolding begins_comment
 comment_slash c cs h = eqb-true c 47 (first (c == 47) (first_passes is_comment_sign cs) h)

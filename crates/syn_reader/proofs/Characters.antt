@@ -19,13 +19,13 @@ and_right : (a b : Bool) → (a && b) ≡ true → b ≡ true
 and_right true b e = e
 and_right false b e = absurd (true≢false (sym e))
 
--- no character that passes stands at the front
+-- the first character is not one that passes
 first_fails : (test : ℕ → Bool) (cs bytes : List ℕ) → encodes cs ≡ bytes → scalars cs ≡ true
     → ((c : ℕ) (rest : List ℕ) → IsScalar c → bytes ≡ encode_utf8 c ++ rest → test c ≡ false) → first_passes test cs ≡ false
 first_fails test [] bytes e s h = refl
 first_fails test (c ∷ cs) bytes e s h = h c (encodes cs) (and_left _ _ s) (sym e)
 
--- the first character, if there is one, passes where the text is empty or begins with one that does
+-- the first character, if there is one, passes if the text is empty or starts with one that does
 pub passes_there : (test : ℕ → Bool) (bytes rest : List ℕ) → IsUtf8 bytes → EmptyOrStartsWithPassing test bytes rest → (c : ℕ) (cs : List ℕ) → chars bytes ≡ c ∷ cs → test c ≡ true
 passes_there test [] rest u h c cs e = let none : [] ≡ c ∷ cs = sym chars-nil ∙ e in absurd (cc)
 passes_there test (b ∷ bytes) rest u h c cs e =
@@ -34,7 +34,7 @@ passes_there test (b ∷ bytes) rest u h c cs e =
     let same : found.0 ≡ c = cc in
     subst (λ (n : ℕ). test n ≡ true) same found.1
 
--- what is left when all characters that pass are cut off
+-- what remains when all characters that pass are cut off
 pub trimmed_stops : (test : ℕ → Bool) (bytes : List ℕ) → IsUtf8 bytes → (o : Option ℕ) → FindsPrefixBy test bytes o → IfSome o (λ n. n ≡ 0) → begins_by test bytes ≡ false
 trimmed_stops test bytes u None h z = first_fails test (chars bytes) bytes (encodes-chars bytes u) (scalars-chars bytes u) h
 trimmed_stops test bytes u (Some n) h z = absurd (omega (arith, z, h.2.ends, (len_utf8_bounds h.0).0))
@@ -76,7 +76,7 @@ cut_passes test R finds bytes (n ∷ ns) rest u h =
     let found = finds h.0 (Some n) h.2 in
     one_more test bytes h.0 rest found.0 (cut_passes test R finds bytes ns h.0 u h.1) found.1 (found.2.split ∙ ap (λ r. encode_utf8 found.0 ++ r) (sym h.3))
 
--- without characters that pass, up to one that doesn't
+-- the rest after the characters that pass, from the first one that doesn't
 dropped : (test : ℕ → Bool) (xs ys : List ℕ) → list_all test xs ≡ true → first_passes test ys ≡ false → drop_while test (xs ++ ys) ≡ ys
 dropped test [] [] h e = refl
 dropped test [] (y ∷ ys) h e = rw e refl

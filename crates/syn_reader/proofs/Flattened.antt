@@ -15,7 +15,7 @@ flat_append (group d o c i m) b =
     ap (λ l. opened d o ∷ (flat i ++ (closed d c ∷ l))) (flat_append m b)
     ∙ ap (λ l. opened d o ∷ l) (sym (append_assoc (flat i) (closed d c ∷ flat m) (flat b)))
 
--- and behind other tokens
+-- and after other tokens
 pub flat_more : (around : List Token) (a b : Stream) → around ++ flat (a ⧺ b) ≡ (around ++ flat a) ++ flat b
 flat_more around a b = ap (λ l. around ++ l) (flat_append a b) ∙ sym (append_assoc around (flat a) (flat b))
 
@@ -59,6 +59,6 @@ cut_is_seen text i [] j h = refl
 cut_is_seen text i ((p, s) ∷ ps) j h =
     list_all-append is_seen (tokens_of p s) (all_tokens ps) ∙ rw (piece_is_seen text p s.start s.stop s h.1.2, cut_is_seen text s.stop ps j h.2) refl
 
--- what a text spells is visible
+-- the stream of a text is visible
 pub spells_visible : (text : List ℕ) (stream : Stream) → Spells text stream → visible stream ≡ true
 spells_visible text stream (pieces, cut, same) = visible_by_tokens stream (ap (list_all is_seen) same ∙ cut_is_seen text 0 pieces _ cut)

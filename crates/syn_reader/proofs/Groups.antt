@@ -1,4 +1,4 @@
--- Groups that are open, and what was added so far.
+-- Open groups, and the tokens that were added so far.
 use Rattle.std.proofs.Common.{◌≡◌, ℕ, ◌<◌, ◌≤◌, List, [], ◌∷◌, ◌++◌, length, refl, ap, sym, ◌∙◌, subst, append_assoc, append-nil}
 use Rattle.std.specs.Prelude.{Result, Ok, Err, IfOk, IfErr, OnOk, MatchResult}
 use Rattle.syn_grammar.specs.Tokens.{Span, Stream, end, group}
@@ -23,7 +23,7 @@ around_more (x ∷ os) o =
     ap (λ l. flat x.outer ++ (opened (delimiter_of x.delimiter) (at x.opening) ∷ l)) (around_more os o)
     ∙ sym (append_assoc (flat x.outer) (opened (delimiter_of x.delimiter) (at x.opening) ∷ tokens_around os) (flat o.outer ++ (opened (delimiter_of o.delimiter) (at o.opening) ∷ [])))
 
--- a group is opened: its sign stands behind what was added
+-- a group is opened: its delimiter comes after the tokens that were added
 pub opened_more : (os : List OpenGroup) (o : OpenGroup)
     → tokens_around (os ++ (o ∷ [])) ++ [] ≡ (tokens_around os ++ flat o.outer) ++ (opened (delimiter_of o.delimiter) (at o.opening) ∷ [])
 opened_more os o =
@@ -35,7 +35,7 @@ regroup a b t c d =
     sym (append_assoc (a ++ b) (t ∷ []) (c ++ d))
     ∙ (ap (λ l. l ++ (c ++ d)) (append_assoc a b (t ∷ [])) ∙ sym (append_assoc (a ++ (b ++ (t ∷ []))) c d))
 
--- the innermost group is closed: its content and the closing delimiter stand behind what was added before it
+-- the innermost group is closed: its content and the closing delimiter come after the tokens before it
 pub closed_more : (os : List OpenGroup) (o : OpenGroup) (content last : List Token)
     → (tokens_around os ++ flat o.outer) ++ (opened (delimiter_of o.delimiter) (at o.opening) ∷ (content ++ last)) ≡ (tokens_around (os ++ (o ∷ [])) ++ content) ++ last
 closed_more os o content last =
@@ -71,7 +71,7 @@ pub closes_within : (r : Result (Unit {0}) (List FaultValue)) (n : ℕ) (d : Del
 closes_within (Ok x) n d s old new reason h e w l m = rw h.is (within_fewer n h.around h.innermost (subst (AllWithin n) h.was w))
 closes_within (Err e) n d s old new reason h f w l m = fault_within n s reason e l m f
 
--- no group is open any more
+-- no group is open
 pub finishes : (r : Result Stream (List FaultValue)) (n : ℕ) (b : Building) → AllWithin n b.open_groups
     → MatchResult r (λ stream. (b.open_groups ≡ []) × (b.stream ≡ stream)) (λ e. (g : OpenGroup) × (gs : List OpenGroup) × (b.open_groups ≡ g ∷ gs) × (e ≡ unbalanced g.opening))
     → MatchResult r (λ stream. flat stream ≡ tokens_around b.open_groups ++ flat b.stream) (IsFaultWithin n)
@@ -82,7 +82,7 @@ pub within_more : (n : ℕ) (os : List OpenGroup) (o : OpenGroup) → AllWithin 
 within_more n [] o h l m = (l, m, tt)
 within_more n (x ∷ os) o h l m = (h.0, h.1, within_more n os o h.2 l m)
 
--- more tokens behind more tokens
+-- more tokens after more tokens
 pub joined : (s t u x y : List Token) → t ≡ s ++ x → u ≡ t ++ y → u ≡ s ++ (x ++ y)
 joined s t u x y e f = f ∙ (ap (λ l. l ++ y) e ∙ append_assoc s x y)
 
@@ -100,7 +100,7 @@ pub then_ok : {T E : Type 0} (r : Result T E) (A B : Type 0) → IfOk r (λ x. A
 then_ok (Ok x) A B a f = f a
 then_ok (Err e) A B a f = tt
 
--- where a piece that stands up to byte j stands
+-- a piece starts before the position where it ends
 pub piece_starts : (text : List ℕ) (p : Piece) (i j k : ℕ) → IsPieceAt text p i j → k ≡ j → i < k
 piece_starts text p i j k h e = rw e h.1
 
@@ -119,13 +119,13 @@ builds_more text old new i j p s (pieces, cut, same, within) blank piece e added
       after,
     )
 
--- the same where it may be refused
+-- the same for a step that may fail
 pub builds_or_fault : {T : Type 0} (r : Result T (List FaultValue)) (text : List ℕ) (old new : TreeBuilder) (i j : ℕ) (p : Piece) (s : Span) → Builds text old i → IsBlank text i s.start
     → IsPieceAt text p s.start j → s.stop ≡ j → IfOk r (λ x. tokens_so_far new ≡ tokens_so_far old ++ tokens_of p s)
     → MatchResult r (λ x. AllWithin (length text) new.inner.open_groups) (IsFaultWithin (length text)) → MatchResult r (λ x. Builds text new j) (IsFaultWithin (length text))
 builds_or_fault (Ok x) text old new i j p s builds blank piece e added after = builds_more text old new i j p s builds blank piece e added after
 builds_or_fault (Err f) text old new i j p s builds blank piece e added after = after
 
--- nothing is left but white space
+-- only white space remains
 pub builds_spelled : (text : List ℕ) (b : TreeBuilder) (i : ℕ) → Builds text b i → IsBlank text i (length text) → (stream : Stream) → flat stream ≡ tokens_so_far b → Spells text stream
 builds_spelled text b i (pieces, cut, same, within) blank stream e = (pieces, cut_blank text 0 pieces i (length text) cut blank, e ∙ same)

@@ -1,4 +1,4 @@
--- Texts of characters that identifiers are made of.
+-- Texts of characters that make up identifiers.
 use Rattle.std.proofs.Common.{◌≡◌, ℕ, Bool, true, false, ◌&&◌, ◌==◌, List, [], ◌∷◌, ◌++◌, drop, codes, nat_eq, refl, sym, ap, ◌∙◌, subst, true≢false, lit<, append_assoc, inl, inr}
 use Rattle.std.proofs.lemmas.Bool.{eqb-true}
 use Rattle.std.specs.List.{list_all}
@@ -14,7 +14,7 @@ use Rattle.syn_tokens.specs.Idents.{may_start, is_name, without_raw, is_identifi
 use Rattle.syn_reader.specs.Scanning.{drop_while, begins_raw_name, after_word}
 use Rattle.syn_reader.specs.Places.{BeginsName}
 
--- no identifier goes on by `#`
+-- `#` does not continue an identifier
 pound_stops : is_xid_continue 35 ≡ true → ⊥
 pound_stops e = true≢false (sym e ∙ is_xid_continue-ascii 35 (lit< tt))
 
@@ -25,7 +25,7 @@ second_goes_on c d cs ds e h = left (is_xid_continue d) (list_all is_xid_continu
     left true b h = refl
     left false b h = h
 
--- so nothing that goes on as identifiers do begins with `r#`
+-- so a text whose later characters continue an identifier doesn't start with `r#`
 no_raw : (x : List ℕ) → list_all is_xid_continue (drop 1 (chars x)) ≡ true → begins_text (codes "r#") x ≡ false
 unfolding chars
 no_raw [] h = refl
@@ -47,7 +47,7 @@ no_raw (a ∷ b ∷ l) h = go (nat_eq 114 a) (nat_eq 35 b) refl refl
         let Goes : ℕ → ℕ → Type 0 = λ x y. list_all is_xid_continue (drop 1 (chars (x ∷ y ∷ l))) ≡ true in
         absurd (raw l (subst (λ (x : ℕ). Goes x 35) (sym (eqb-true 114 a e)) (subst (λ (y : ℕ). Goes a y) (sym (eqb-true 35 b f)) h)))
 
--- a first character and such as follow it
+-- a character that may start a name, followed by such as may continue it
 pub name_is : (x rest : List ℕ) (c : ℕ) → IsUtf8 x → x ≡ encode_utf8 c ++ rest → may_start c ≡ true → list_all is_xid_continue (chars rest) ≡ true → is_name (chars x) ≡ true
 unfolding is_name
 name_is x rest c u e s h = rw (chars_past_char x rest c u e, s, h) refl
@@ -95,7 +95,7 @@ starts : (c : ℕ) (cs : List ℕ) → may_start c ≡ true → list_all is_xid_
 unfolding is_name
 starts c cs h g = rw (h, g) refl
 
--- what begins as an identifier does and goes on as one is one
+-- a text that starts and continues as an identifier is one
 pub word_is : (x front more : List ℕ) → IsUtf8 x → chars x ++ drop_while is_xid_continue more ≡ front ++ more → BeginsName front → is_identifier x ≡ true
 word_is x front more u e begins =
     let p = passing is_xid_continue more in
@@ -115,7 +115,7 @@ and_second : (a b : Bool) → (a && b) ≡ true → b ≡ true
 and_second true b h = h
 and_second false b h = absurd (true≢false (sym h))
 
--- what a raw identifier goes on by behind its `r`
+-- what a raw identifier has after its `r`
 pub raw_front : (cs : List ℕ) → begins_raw_name cs ≡ true → (c : ℕ) × (may_start c ≡ true) × (cs ≡ 35 ∷ c ∷ drop 1 (drop 1 cs))
 unfolding begins_raw_name
 raw_front [] h = absurd (true≢false (sym h))

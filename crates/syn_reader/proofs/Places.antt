@@ -1,4 +1,4 @@
--- Where texts may be cut.
+-- Positions at which a text may be cut.
 use Rattle.std.proofs.Common.{◌≡◌, ℕ, ◌+◌, ◌-◌, List, ◌++◌, drop, length, ap, sym, ◌∙◌, subst, arith, inl, inr}
 use Rattle.std.specs.Str.{IsUtf8, IsCharBoundary}
 use Rattle.std.proofs.Math.Seq.{drop-append_seam}
@@ -19,10 +19,10 @@ boundary_at text rest j r u =
           rw e (IsCharBoundary-from_drop text j within (subst IsUtf8 r u))
     ]
 
--- what is left behind a place begins at a place
+-- the rest after a position starts at a character boundary
 pub boundary_of_rest : (text rest : List ℕ) (i : ℕ) → EndsWith (drop i text) rest → IsUtf8 rest → IsCharBoundary text (length text - length rest)
 boundary_of_rest text rest i e u = boundary_at text rest (i + e.0) (e.1 ∙ drop-drop e.0 i text) u
 
--- what stands behind a front of the text ends it
+-- the text after a prefix is a suffix
 pub ends_behind : (text front rest : List ℕ) → text ≡ front ++ rest → EndsWith text rest
 ends_behind text front rest e = (length front, sym (ap (drop (length front)) e ∙ drop-append_seam front rest))

@@ -1,4 +1,4 @@
--- Where texts are refused.
+-- Refusals of texts.
 use Rattle.std.proofs.Common.{◌≡◌, ℕ, List, [], ◌∷◌, ◌++◌, length, refl, sym, ap, ◌∙◌, subst, append_assoc, append-nil}
 use Rattle.syn_grammar.specs.Tokens.{Span, Stream, end, leaf, punct, group}
 use Rattle.syn_tokens.specs.Spans.{at}
@@ -15,7 +15,7 @@ use Rattle.syn_reader.specs.Building.{tokens_around, Builds, IsOutermost}
 use Rattle.syn_reader.specs.Refusals.{Opening, Leaves, IsReadTo, Flaw, unexpected, open_literal, open_comment, stray_closing, open_group, IsLexicalFlaw, FollowsAsFault, NotInnermost, IsFlaw, IsRefusal}
 use Rattle.syn_reader.proofs.Spelling.{cut_blank}
 
--- THE GROUPS THAT ARE OPEN
+-- THE OPEN GROUPS
 
 -- a stream closes what it opens
 leaves_flat : (s : Stream) (ts : List Token) (around after : List Opening) → Leaves ts around after → Leaves (flat s ++ ts) around after
@@ -40,7 +40,7 @@ leaves_around (g ∷ gs) s around =
     (leaves_flat g.outer (opened (delimiter_of g.delimiter) (at g.opening) ∷ (tokens_around gs ++ flat s)) around (signs (g ∷ gs) around)
     (leaves_around gs s ((delimiter_of g.delimiter, at g.opening) ∷ around)))
 
--- what was built so far is what was read
+-- the tokens that were built so far are those that were read
 pub builds_read : (text : List ℕ) (b : TreeBuilder) (i : ℕ) → Builds text b i → IsReadTo text i (signs b.inner.open_groups [])
 builds_read text b i (pieces, cut, same, within) =
     (pieces, cut, subst (λ (l : List Token). Leaves l [] (signs b.inner.open_groups [])) same (leaves_around b.inner.open_groups b.inner.stream []))
@@ -99,7 +99,7 @@ not_last d b h (innermost before g e) =
 
 -- REFUSALS
 
--- what no piece begins with, behind what was built so far
+-- no piece starts after the tokens that were built so far
 pub lexical_refusal : (text : List ℕ) (b : TreeBuilder) (i : ℕ) (e : List FaultValue) → Builds text b i → FollowsAsFault text i e → IsRefusal text e
 lexical_refusal text b i [] builds h = tt
 lexical_refusal text b i (f ∷ []) builds (blank, (starts, some, inside, (flaw, words, is))) =
@@ -114,7 +114,7 @@ lexical_refusal text b i (f ∷ []) builds (blank, (starts, some, inside, (flaw,
     placed text around open_group s read is = absurd is
 lexical_refusal text b i (f ∷ g ∷ fs) builds (blank, h) = absurd h
 
--- a closing delimiter that isn't the innermost open group's
+-- a closing delimiter that doesn't match the innermost open group
 pub closing_refusal : (text : List ℕ) (b : TreeBuilder) (i j : ℕ) (d : Delimiter) (s : TokenSpan) (e : List FaultValue) → Builds text b i → IsBlank text i s.start
     → IsPieceAt text (closing (delimiter_of d)) s.start j → s.end ≡ j → IsUnbalanced s (NotOpen d b.inner) e → IsRefusal text e
 closing_refusal text b i j d s [] builds blank piece ends h = tt
@@ -131,7 +131,7 @@ open_refusal text b i e builds blank (g, gs, groups, is) =
     let outermost = ap (λ l. signs l []) groups ∙ signs_outside gs ((delimiter_of g.delimiter, at g.opening) ∷ []) in
     subst (IsRefusal text) (sym is) (open_group, refl, (delimiter_of g.delimiter, signs gs [], subst (IsReadTo text (length text)) outermost read))
 
--- a lexical fault stands within the text
+-- a lexical fault is within the text
 pub lexical_within : (text : List ℕ) (i : ℕ) (e : List FaultValue) → FollowsAsFault text i e → IsFaultWithin (length text) e
 lexical_within text i [] h = absurd h
 lexical_within text i (f ∷ []) (blank, (starts, some, inside, flaw)) = (some, inside)

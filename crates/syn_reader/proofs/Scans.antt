@@ -1,4 +1,4 @@
--- How literals are cut out, one character after another.
+-- How literals are split off, one character after another.
 use Rattle.std.proofs.Common.{◌≡◌, ℕ, suc, ◌+◌, ◌-◌, ◌<◌, ◌≤◌, Bool, true, false, true≢false, ◌&&◌, ◌||◌, List, [], ◌∷◌, length, drop, Some, None, Bor, refl, sym, ap, ◌∙◌, subst, arith}
 use Rattle.std.specs.Prelude.{◌==◌, if◌then◌else◌}
 use Rattle.std.specs.Char.{is_ascii_digit, encode_utf8}
@@ -20,15 +20,15 @@ use Rattle.syn_reader.specs.Spelling.{Stands}
 use Rattle.syn_reader.specs.Lexemes.{IsLexemeFrom}
 use Rattle.syn_reader.specs.Scanning.{behind, begins_comment, first_passes, begins_with, drop_while, after_quote, has_hashes, after_raw, after_raw_string, begins_raw_string, begins_character, begins_byte, behind_suffix, Absent, Scanned, closed, raw_string_at, character_at, prefixed_at, after_b, goes_on_number, after_sign, number_at, decimal_at, after_digits, is_plain, begins_fraction, literal_at, literal_from, lettered, begins_raw_name, after_word}
 
--- one step less is left
+-- one step fewer remains
 pub shorter : (cs ds : List ℕ) (c : ℕ) → cs ≡ c ∷ ds → length ds < length cs
 shorter cs ds c e = omega (arith, ap length e)
 
--- and still less behind another one
+-- and fewer still after another one
 pub shorter_still : (cs ds es : List ℕ) (c : ℕ) → cs ≡ c ∷ ds → es ≡ drop 1 ds → length es < length cs
 shorter_still cs ds es c e f = omega (arith, ap length e, ap length f, length-drop 1 ds)
 
--- nothing is left at the end
+-- nothing remains at the end
 pub left_none : (text : List ℕ) (i : ℕ) → length text ≤ i → behind text i ≡ []
 left_none text i h = ap chars (drop_all i text h) ∙ chars-nil
 
@@ -65,7 +65,7 @@ unfolding after_quote
 escaped q c [] f g = cond-false (c == q) _ _ f
 escaped q c (d ∷ ds) f g = cond-false (c == q) _ _ f ∙ cond-true (c == 92) _ _ g
 
--- a backslash takes the character behind it along
+-- a backslash escapes the character after it
 pub quote_escaped : (q : ℕ) (cs ds es : List ℕ) (c : ℕ) → cs ≡ c ∷ ds → es ≡ drop 1 ds → (c ≡ q → ⊥) → c ≡ 92 → after_quote q cs ≡ after_quote q es
 quote_escaped q cs ds es c e d f g =
     ap (after_quote q) e ∙ (escaped q c ds (ne_eqb c q f) (eq-eqb c 92 g) ∙ ap (after_quote q) (sym d))
@@ -94,7 +94,7 @@ hash_no_quote n (c ∷ cs) e =
     let other : (c == 34) ≡ false = ap (λ (x : ℕ). x == 34) (eqb-true c 35 e) in
     sym (cond-false (c == 34 && has_hashes n cs) _ _ (ap (λ b. b && has_hashes n cs) other))
 
--- of n hashes that are to stand at a place, i were stepped over
+-- of n hashes to skip, i are skipped
 pub record Hashed (n i : ℕ) (cs ds : List ℕ) : Type 0 where
   pub same : has_hashes n cs ≡ has_hashes (n - i) ds
   pub all : drop n cs ≡ drop (n - i) ds
@@ -257,7 +257,7 @@ pub byte_character : (ds es : List ℕ) → begins_byte ds ≡ true → es ≡ d
 unfolding begins_byte
 byte_character ds es b d = ap begins_character d ∙ (and_parts (begins_with 39 ds) _ b).1
 
--- a word is as long as its characters go on, where it is no raw one
+-- a word extends as far as its characters continue it, unless it is raw
 pub plain_word : (c : ℕ) (cs : List ℕ) → (c == 114) ≡ false → drop_while is_xid_continue cs ≡ after_word c cs
 unfolding after_word
 plain_word c cs e = ap (drop_while is_xid_continue) (sym (cond-false (c == 114 && begins_raw_name cs) (drop 2 cs) cs (and_left (c == 114) _ e)))

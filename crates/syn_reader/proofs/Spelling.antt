@@ -1,4 +1,4 @@
--- What texts spell, put together and taken apart.
+-- The token streams of texts, composed and decomposed.
 use Rattle.std.proofs.Common.{◌≡◌, ℕ, ◌+◌, ◌-◌, ◌<◌, ◌≤◌, List, [], ◌∷◌, ◌++◌, take, drop, length, refl, ap, sym, ◌∙◌, arith, append_assoc, append-nil}
 use Rattle.std.specs.Char.{is_not_whitespace}
 use Rattle.std.proofs.lemmas.List.{length-append, length-drop, drop-drop}
@@ -7,9 +7,9 @@ use Rattle.std.proofs.Math.Seq.{drop-append_seam, take-append_seam}
 use Rattle.syn_grammar.specs.Tokens.{Span}
 use Rattle.syn_reader.specs.Spelling.{Stands, IsBlank, Piece, IsPieceAt, IsCut, tokens_of, all_tokens}
 
--- STANDING IN A TEXT
+-- BYTES IN A TEXT
 
--- what stands behind a place goes up to where no more than the rest is left
+-- what comes before the rest of a text ends where the rest starts
 pub stands_before : (text front rest : List ℕ) (i : ℕ) → i ≤ length text → drop i text ≡ front ++ rest → Stands text front i (length text - length rest)
 stands_before text front rest i h e =
     let l : length text - i ≡ length front + length rest = sym (length-drop i text) ∙ (ap length e ∙ length-append front rest) in
@@ -24,13 +24,13 @@ stands_append {text} {x} {y} {i} {j} {k} a b = record {
   ends = b.ends ∙ (ap (λ n. n + length y) a.ends ∙ omega (arith, length-append x y));
 }
 
--- no other bytes stand there
+-- no other bytes are there
 pub stands_alone : {text x y : List ℕ} {i j : ℕ} → Stands text x i j → Stands text y i j → x ≡ y
 stands_alone {text} {x} {y} {i} {j} a b =
     let l : length x ≡ length y = omega (arith, a.ends, b.ends) in
     sym (take-append_seam x (drop j text)) ∙ (ap (take (length x)) (sym a.split ∙ b.split) ∙ (ap (λ n. take n (y ++ drop j text)) l ∙ take-append_seam y (drop j text)))
 
--- some bytes that stand in a text end before it does
+-- nonempty bytes in a text end at most at its end
 pub stands_within : {text x : List ℕ} {i j : ℕ} → Stands text x i j → i < j → j ≤ length text
 stands_within {text} {x} {i} {j} h l =
     let e : length text - i ≡ length x + (length text - j) =
@@ -45,18 +45,18 @@ blank_append text i j k a b = (a.0 ++ b.0, NoCharPasses-append is_not_whitespace
 
 -- PIECES
 
--- white space before what is cut
+-- white space before the first piece
 pub cut_first : (text : List ℕ) (i j : ℕ) (ps : List (Piece × Span)) (k : ℕ) → IsBlank text i j → IsCut text j ps k → IsCut text i ps k
 cut_first text i j [] k b h = blank_append text i j k b h
 cut_first text i j ((p, s) ∷ ps) k b h = (blank_append text i j s.start b h.0, h.1, h.2)
 
--- and one more piece behind it
+-- and one more piece after the last
 pub cut_more : (text : List ℕ) (i : ℕ) (ps : List (Piece × Span)) (j : ℕ) (p : Piece) (s : Span) → IsCut text i ps j → IsBlank text j s.start
     → IsPieceAt text p s.start s.stop → IsCut text i (ps ++ ((p, s) ∷ [])) s.stop
 cut_more text i [] j p s h b g = (blank_append text i j s.start h b, g, blank_here text s.stop)
 cut_more text i ((q, t) ∷ ps) j p s h b g = (h.0, h.1, cut_more text t.stop ps j p s h.2 b g)
 
--- white space behind it
+-- white space after the last piece
 pub cut_blank : (text : List ℕ) (i : ℕ) (ps : List (Piece × Span)) (j k : ℕ) → IsCut text i ps j → IsBlank text j k → IsCut text i ps k
 cut_blank text i [] j k h b = blank_append text i j k h b
 cut_blank text i ((q, t) ∷ ps) j k h b = (h.0, h.1, cut_blank text t.stop ps j k h.2 b)

@@ -1,4 +1,4 @@
--- Characters with which no piece begins, and the delimiters of groups.
+-- Characters with which no piece starts, and the delimiters of groups.
 use Rattle.std.proofs.Common.{◌≡◌, ◌≢◌, ◌<◌, ◌==◌, ℕ, true, false, List, [], ◌∷◌, codes, refl, sym, ap, ◌∙◌, subst, true≢false, lit<}
 use Rattle.std.proofs.lemmas.Bool.{eq-eqb}
 use Rattle.std.specs.Prelude.{Result, Ok, Err, IfOk, IfErr, MatchResult}
@@ -23,7 +23,7 @@ use Rattle.syn_reader.proofs.Beginnings.{differs, letter_starts}
 use Rattle.syn_reader.proofs.Scans.{quote_literal, no_character}
 use Rattle.syn_reader.proofs.Spelling.{stands_within}
 
--- the fault at a character with which no piece begins
+-- the fault at a character with which no piece starts
 fault_there : (start next : Cursor) (c : ℕ) (s : Span) (e : List FaultValue) → IsPast c start next → Stands start.text.now (encode_utf8 c) start.offset next.offset
     → s ≡ record { start = start.offset; end = next.offset } → e ≡ (s, codes "unexpected character") ∷ [] → BeginsNone c (left next)
     → IsLexicalFault start.text.now start.offset e
@@ -46,7 +46,7 @@ quote_no_sign grammar.Brace = (other_sign 123 39 refl, other_sign 125 39 refl)
 quote_no_sign grammar.Bracket = (other_sign 91 39 refl, other_sign 93 39 refl)
 quote_no_sign grammar.None = (no_text 39, no_text 39)
 
--- a `'` that begins neither a character nor a lifetime
+-- a `'` that starts neither a character nor a lifetime
 pub quote_alone : (start next : Cursor) (s : Span) (e : List FaultValue) → IsPast 39 start next → Stands start.text.now (encode_utf8 39) start.offset next.offset
     → begins_character (left next) ≡ false → first_passes may_start (left next) ≡ false → s ≡ record { start = start.offset; end = next.offset }
     → e ≡ (s, codes "unexpected character") ∷ [] → IsLexicalFault start.text.now start.offset e
@@ -89,7 +89,7 @@ sign_there start next c s (Literal k x t) past stands there h = absurd h
 sign_there start next c s (Punct p) past stands there h = absurd h
 sign_there start next c s (Comment x t) past stands there h = absurd h
 
--- a delimiter of a group, or a character with which no piece begins
+-- a delimiter of a group, or a character with which no piece starts
 pub sign_or_fault : (r : Result Lexeme (List FaultValue)) (start next : Cursor) (c : ℕ) (s : Span) → IsPast c start next
     → Stands start.text.now (encode_utf8 c) start.offset next.offset → s ≡ record { start = start.offset; end = next.offset }
     → is_not_whitespace c ≡ true → may_start c ≡ false → (c ≡ 34 → ⊥) → (c ≡ 39 → ⊥) → is_ascii_digit c ≡ false → is_punct_character c ≡ false

@@ -1,4 +1,4 @@
--- What the entries of a stream write is the text of the stream.
+-- The text of a stream's entries is the text of the stream.
 use Rattle.std.proofs.Common.{◌≡◌, ℕ, ◌+◌, ◌<◌, ◌≤◌, Bool, true, false, List, [], ◌∷◌, ◌++◌, length, drop, get_or, refl, sym, ap, ◌∙◌, append_assoc, append-nil}
 use Rattle.std.proofs.lemmas.List.{at_drop_more, drop_all}
 use Rattle.std.specs.Char.{encode_utf8}
@@ -11,15 +11,15 @@ use Rattle.syn_reader.specs.Spelling.{opening_delimiter, closing_delimiter}
 use Rattle.syn_reader.specs.Texts.{gap, follows_directly, text_behind, text_of}
 use Rattle.syn_reader.specs.EntryTexts.{entry_text, direct_behind, entries_text}
 
--- a word, what comes behind it, and the rest
+-- a word, what follows it, and the rest
 word_first : (a b c r : List ℕ) → (a ++ b) ++ (c ++ r) ≡ (a ++ (b ++ c)) ++ r
 word_first a b c r = append_assoc a b (c ++ r) ∙ ap (λ t. a ++ t) (sym (append_assoc b c r)) ∙ sym (append_assoc a (b ++ c) r)
 
--- a stream writes this before all other entries
+-- the text of a stream comes before that of all other entries
 abbrev WritesFirst : Bool → Stream → Type 0
 WritesFirst direct s = (rest : List Entry) → entries_text direct (encode s ++ rest) ≡ text_behind direct s ++ entries_text (follows_directly direct s) rest
 
--- the content of a visible group and what is behind the group, where its delimiters are these
+-- the content of a visible group and what follows the group, if its delimiters are these
 in_delimiters : (space opening closing : List ℕ) (close : Entry) → ((b : Bool) → entry_text b close ≡ gap b ++ closing) → ((b : Bool) → direct_behind b close ≡ false)
     → (i m : Stream) → WritesFirst false i → WritesFirst false m → (rest : List Entry)
     → (space ++ opening) ++ entries_text false ((encode i ++ close ∷ encode m) ++ rest)
@@ -37,7 +37,7 @@ in_delimiters space opening closing close writes ends i m inner more rest =
     ∙ ap (λ t. (space ++ opening) ++ t) (sym (append_assoc (text_behind false i) tail left))
     ∙ word_first space opening (text_behind false i ++ tail) left
 
--- the entries of a stream with others behind them
+-- the entries of a stream with others after them
 behind_stream : (direct : Bool) (s : Stream) → WritesFirst direct s
 behind_stream direct end rest = refl
 behind_stream direct (leaf (ident x) sp m) rest =
@@ -66,11 +66,11 @@ behind_stream direct (group Bracket o c i m) rest =
 pub whole_text : (s : Stream) → entries_text true (encode s) ≡ text_of s
 whole_text s = ap (entries_text true) (sym (append-nil (encode s))) ∙ behind_stream true s [] ∙ append-nil (text_of s)
 
--- what is left to be written, one entry on
+-- the entries that are still to be printed, one entry on
 pub next_entry : (direct : Bool) (es : List Entry) (i : ℕ) (d : Entry) → i < length es →
     entries_text direct (drop i es) ≡ entry_text direct (get_or es i d) ++ entries_text (direct_behind direct (get_or es i d)) (drop (i + 1) es)
 next_entry direct es i d h = at_drop_more (entries_text direct) es i d h
 
--- nothing is left
+-- nothing remains
 pub no_entry : (direct : Bool) (es : List Entry) (i : ℕ) → length es ≤ i → entries_text direct (drop i es) ≡ []
 no_entry direct es i h = ap (entries_text direct) (drop_all i es h)

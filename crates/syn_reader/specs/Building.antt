@@ -9,7 +9,7 @@ use Rattle.syn_reader.specs.declared.reader.trees.TreeBuilder.{TreeBuilder}
 use Rattle.syn_reader.specs.Flat.{Token, opened, flat}
 use Rattle.syn_reader.specs.Spelling.{Piece, IsCut, all_tokens}
 
--- the tokens before the groups that are open, from the outermost to the innermost, each with the opening delimiter behind them
+-- the tokens before the open groups, from the outermost to the innermost, each with the opening delimiter after them
 abbrev pub tokens_around : List OpenGroup → List Token
 tokens_around [] = []
 tokens_around (o ∷ os) = flat o.outer ++ (opened (delimiter_of o.delimiter) (at o.opening) ∷ tokens_around os)
@@ -18,12 +18,12 @@ tokens_around (o ∷ os) = flat o.outer ++ (opened (delimiter_of o.delimiter) (a
 abbrev pub tokens_so_far : TreeBuilder → List Token
 tokens_so_far b = tokens_around b.inner.open_groups ++ flat b.inner.stream
 
--- the opening delimiters stand in a text of so many bytes
+-- the opening delimiters are in a text of so many bytes
 abbrev pub AllWithin : ℕ → List OpenGroup → Type 0
 AllWithin n [] = Unit {0}
 AllWithin n (o ∷ os) = (o.opening.start < o.opening.end) × (o.opening.end ≤ n) × AllWithin n os
 
--- up to byte j the text is cut into pieces whose tokens were added
+-- the text up to byte j is split into pieces whose tokens were added
 abbrev pub Builds : List ℕ → TreeBuilder → ℕ → Type 0
 Builds text b j = (pieces : List (Piece × Span)) × IsCut text 0 pieces j × (tokens_so_far b ≡ all_tokens pieces) × AllWithin (length text) b.inner.open_groups
 

@@ -1,5 +1,5 @@
--- The text of a token stream once more, entry by entry: what is written from an entry on depends on what stands behind it
--- and on whether it follows directly, and on nothing before it.
+-- The text of a token stream once more, entry by entry: the text from an entry on depends on the entries after it and on
+-- whether it follows directly, and on nothing before it.
 use Rattle.std.specs.Prelude.{ℕ, Bool, false, List, [], ◌∷◌, ◌++◌, if◌then◌else◌}
 use Rattle.std.specs.Char.{encode_utf8}
 use Rattle.syn_grammar.specs.Tokens.{Delimiter, is_visible}
@@ -10,11 +10,11 @@ use Rattle.syn_tokens.specs.declared.stream.entry.Token.TheVariants as E
 use Rattle.syn_reader.specs.Spelling.{opening_delimiter, closing_delimiter}
 use Rattle.syn_reader.specs.Texts.{gap}
 
--- what a delimiter of a group writes; nothing where the group is invisible
+-- the text of a group's delimiter; empty if the group is invisible
 abbrev pub delimiter_text : Bool → Delimiter → List ℕ → List ℕ
 delimiter_text direct d group_delimiter = if is_visible d then gap direct ++ group_delimiter else []
 
--- what one entry writes, the space before it included; the flag says whether it follows directly
+-- the text of one entry, including the space before it; the flag says whether it follows directly
 abbrev pub entry_text : Bool → Entry → List ℕ
 entry_text direct (E.Ident i) = gap direct ++ i.text
 entry_text direct (E.Literal l) = gap direct ++ l.text
@@ -22,11 +22,11 @@ entry_text direct (E.Punct p) = gap direct ++ encode_utf8 p.character
 entry_text direct (E.Open o) = delimiter_text direct (delimiter_of o.delimiter) (opening_delimiter (delimiter_of o.delimiter))
 entry_text direct (E.Close c) = delimiter_text direct (delimiter_of c.delimiter) (closing_delimiter (delimiter_of c.delimiter))
 
--- whether what comes behind a delimiter follows directly: never behind one that is written
+-- whether the entry after a delimiter follows directly: never after one that is printed
 abbrev pub direct_behind_delimiter : Bool → Delimiter → Bool
 direct_behind_delimiter direct d = if is_visible d then false else direct
 
--- whether what comes behind the entry follows directly
+-- whether the entry after this one follows directly
 abbrev pub direct_behind : Bool → Entry → Bool
 direct_behind direct (E.Ident i) = false
 direct_behind direct (E.Literal l) = false
@@ -34,7 +34,7 @@ direct_behind direct (E.Punct p) = is_joint p.spacing
 direct_behind direct (E.Open o) = direct_behind_delimiter direct (delimiter_of o.delimiter)
 direct_behind direct (E.Close c) = direct_behind_delimiter direct (delimiter_of c.delimiter)
 
--- what entries write, one behind another
+-- the text of entries in sequence
 abbrev pub entries_text : Bool → List Entry → List ℕ
 entries_text direct [] = []
 entries_text direct (e ∷ es) = entry_text direct e ++ entries_text (direct_behind direct e) es

@@ -4,7 +4,7 @@ use Rattle.syn_grammar.specs.Tokens.{Span, Delimiter, Leaf, Stream, end, leaf, p
 
 pub data Token : Type 0 where
   one : Leaf → Span → Token  -- an identifier or a literal
-  punctuation : ℕ → Bool → Span → Token  -- a character of a mark, Joint (true) or Alone (false)
+  punctuation : ℕ → Bool → Span → Token  -- a character of a mark, joint (true) or alone (false)
   opened : Delimiter → Span → Token
   closed : Delimiter → Span → Token
 

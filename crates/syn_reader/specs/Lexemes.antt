@@ -1,4 +1,4 @@
--- The pieces that a text is cut into, as the lexer answers them.
+-- The pieces of a text, as the lexer returns them.
 use Rattle.std.specs.Prelude.{◌≡◌, ◌<◌, ℕ, List, [], ◌∷◌, true, length, Option, Result, IsTrue, MatchOption, MatchResult}
 use Rattle.syn_grammar.specs.Tokens.{Span, is_visible}
 use Rattle.syn_tokens.specs.declared.span.Span.{Span as LexemeSpan}
@@ -34,13 +34,13 @@ IsCutOut text (Comment x s) i j = Stands text x.now i j × (i < j) × IsComment 
 abbrev pub IsLexemeFrom : List ℕ → ℕ → Lexeme → ℕ → Type 0
 IsLexemeFrom text i l j = IsCutOut text l i j × ((span_of l).start ≡ i) × ((span_of l).stop ≡ j)
 
--- it is the delimiter of a group that this character is, and it stands there
+-- it is the delimiter of a group that this character denotes, with this span
 abbrev pub IsDelimiter : ℕ → LexemeSpan → Lexeme → Type 0
 IsDelimiter c s (Open d t) = (opening_delimiter (delimiter_of d) ≡ c ∷ []) × (is_visible (delimiter_of d) ≡ true) × (t ≡ s)
 IsDelimiter c s (Close d t) = (closing_delimiter (delimiter_of d) ≡ c ∷ []) × (is_visible (delimiter_of d) ≡ true) × (t ≡ s)
 IsDelimiter c s _ = ⊥
 
--- what is taken for an identifier is one
+-- the text of an identifier is one
 abbrev pub IsNamed : Lexeme → Type 0
 IsNamed (Ident x s) = IsTrue (is_identifier x.now)
 IsNamed _ = Unit {0}
@@ -49,7 +49,7 @@ IsNamed _ = Unit {0}
 abbrev pub FollowsAsLexeme : List ℕ → ℕ → Lexeme → ℕ → Type 0
 FollowsAsLexeme text i l j = IsBlank text i (span_of l).start × IsLexemeFrom text (span_of l).start l j
 
--- what a step along the text gives: what follows, or what is wrong there, or that only white space is left
+-- the result of one step of the lexer: the next lexeme, or the fault there, or none if only white space remains
 abbrev pub StepsOver : Lexer → Option (Result Lexeme (List FaultValue)) → Lexer → Type 0
 StepsOver old step new = (new.cursor.text ≡ old.cursor.text) × MatchOption step
     (IsBlank old.cursor.text.now old.cursor.offset (length old.cursor.text.now))

@@ -1,4 +1,4 @@
--- Places in a text.
+-- Positions in a text.
 use Rattle.std.specs.Prelude.{◌≡◌, ◌⊎◌, ◌<◌, ◌≤◌, ℕ, Bool, true, List, [], ◌∷◌, drop}
 use Rattle.syn_tokens.specs.Idents.{may_start}
 use Rattle.std.specs.List.{list_all}
@@ -11,25 +11,25 @@ use Rattle.syn_reader.specs.Spelling.{Stands}
 abbrev pub EndsWith : List ℕ → List ℕ → Type 0
 EndsWith text rest = (n : ℕ) × (rest ≡ drop n text)
 
--- from byte i to byte j stand characters that pass the test
+-- the characters from byte i to byte j pass the test
 pub record Skips (test : ℕ → Bool) (text : List ℕ) (i j : ℕ) : Type 0 where
   pub bytes : List ℕ
   pub utf8 : IsUtf8 bytes
   pub all : list_all test (chars bytes) ≡ true
   pub stands : Stands text bytes i j
 
--- the characters behind a place
+-- the characters after a position
 abbrev pub left : Cursor → List ℕ
 left c = behind c.text.now c.offset
 
--- the second place is in the same text, and not before the first
+-- the second position is in the same text, and not before the first
 abbrev pub Onward : Cursor → Cursor → Type 0
 Onward old new = (new.text ≡ old.text) × (old.offset ≤ new.offset)
 
--- the second stands behind the first one's first character, which is this one
+-- the second position is after the first character at the first position, which is this one
 abbrev pub IsPast : ℕ → Cursor → Cursor → Type 0
 IsPast first start next = (next.text ≡ start.text) × (start.offset < next.offset) × (left start ≡ first ∷ left next)
 
--- characters that an identifier begins with: one that may start it, and `r#` may stand before it
+-- the first characters of an identifier: one that may start it, optionally with `r#` before it
 abbrev pub BeginsName : List ℕ → Type 0
 BeginsName cs = (c : ℕ) × (may_start c ≡ true) × ((cs ≡ c ∷ []) ⊎ (cs ≡ 114 ∷ 35 ∷ c ∷ []))

@@ -1,4 +1,4 @@
--- Which texts are refused: with which words, and where.
+-- Which texts are refused, with which message and at which position.
 use Rattle.std.specs.Prelude.{◌≡◌, ◌≢◌, ◌<◌, ◌≤◌, ℕ, false, true, List, [], ◌∷◌, ◌++◌, drop, length, codes, None}
 use Rattle.std.specs.Char.{encode_utf8, is_not_whitespace}
 use Rattle.syn_grammar.specs.Tokens.{Span, Delimiter}
@@ -9,14 +9,14 @@ use Rattle.syn_reader.specs.Scanning.{behind, literal_from, literal_at, Absent, 
 use Rattle.syn_reader.specs.Flat.{Token, one, punctuation, opened, closed}
 use Rattle.syn_reader.specs.Spelling.{Stands, IsBlank, Piece, closing, opening_delimiter, closing_delimiter, begins_mark, IsPieceAt, IsCut, all_tokens}
 
--- THE GROUPS THAT ARE OPEN
+-- THE OPEN GROUPS
 
--- the opening delimiter of a group: of which delimiter, and where it stands
+-- an opening delimiter, with its span
 abbrev pub Opening : Type 0
 Opening = Delimiter × Span
 
--- Each closing delimiter of these tokens is the innermost open group's, where these groups are open around them, the innermost first;
--- and behind them those are open.
+-- If the groups `around` are open before these tokens, the innermost first, then each closing delimiter of the tokens matches
+-- the innermost open group; and after the tokens the groups `after` are open.
 abbrev pub Leaves : List Token → List Opening → List Opening → Type 0
 Leaves [] around after = after ≡ around
 Leaves (one x s ∷ ts) around after = Leaves ts around after
@@ -25,17 +25,17 @@ Leaves (opened d s ∷ ts) around after = Leaves ts ((d, s) ∷ around) after
 Leaves (closed d s ∷ ts) [] after = ⊥
 Leaves (closed d s ∷ ts) ((e, o) ∷ around) after = (e ≡ d) × Leaves ts around after
 
--- The text is read up to byte i: it is cut into pieces, whose delimiters of groups fit, and leave these groups open.
+-- The text is read up to byte i: it is split into pieces, whose delimiters match and leave these groups open.
 abbrev pub IsReadTo : List ℕ → ℕ → List Opening → Type 0
 IsReadTo text i around = (pieces : List (Piece × Span)) × IsCut text 0 pieces i × Leaves (all_tokens pieces) [] around
 
--- WHAT IS WRONG
+-- ERRORS
 
 pub data Flaw : Type 0 where
-  unexpected : Flaw  -- a character that no piece begins with
+  unexpected : Flaw  -- a character that no piece starts with
   open_literal : Flaw  -- a literal that isn't closed
   open_comment : Flaw  -- a comment that isn't closed
-  stray_closing : Flaw  -- a closing delimiter that isn't the innermost open group's
+  stray_closing : Flaw  -- a closing delimiter that doesn't match the innermost open group
   open_group : Flaw  -- a group that isn't closed
 
 abbrev pub words_of : Flaw → List ℕ
@@ -45,25 +45,25 @@ words_of open_comment = codes "unterminated comment"
 words_of stray_closing = codes "unbalanced group"
 words_of open_group = codes "unbalanced group"
 
--- no group has this character for a delimiter
+-- this character is not the delimiter of a group
 abbrev pub NoDelimiter : ℕ → Type 0
 NoDelimiter c = (d : Delimiter) → (opening_delimiter d ≢ c ∷ []) × (closing_delimiter d ≢ c ∷ [])
 
--- this character is no white space, and no identifier, literal, mark or delimiter of a group begins with it, before these; nor a
--- comment, which begins as marks do
+-- this character is not white space, and no identifier, literal, mark or delimiter of a group starts with it, before these; nor
+-- a comment, which starts as marks do
 abbrev pub BeginsNone : ℕ → List ℕ → Type 0
 BeginsNone c cs = (is_not_whitespace c ≡ true) × (may_start c ≡ false) × (literal_from c cs ≡ Absent) × (begins_mark c cs ≡ false) × NoDelimiter c
 
--- from byte i to byte j stands one character, with which no piece begins
+-- from byte i to byte j is one character, with which no piece starts
 abbrev pub IsUnexpected : List ℕ → ℕ → ℕ → Type 0
 IsUnexpected text i j = (c : ℕ) × Stands text (encode_utf8 c) i j × (cs : List ℕ) × (behind text i ≡ c ∷ cs) × BeginsNone c cs
 
--- a closing delimiter of this delimiter belongs to none of these groups, or not to the innermost
+-- a closing delimiter that doesn't match the innermost of these groups, or there is none
 abbrev pub NotInnermost : Delimiter → List Opening → Type 0
 NotInnermost d [] = Unit {0}
 NotInnermost d ((e, o) ∷ around) = e ≢ d
 
--- At byte i begins no piece, but what isn't closed, or what no piece begins with.
+-- No piece starts at byte i, but an unclosed one, or a character that no piece starts with.
 abbrev pub IsLexicalFlaw : List ℕ → Flaw → ℕ → ℕ → Type 0
 IsLexicalFlaw text unexpected i j = IsUnexpected text i j
 IsLexicalFlaw text open_literal i j = literal_at (behind text i) ≡ Unclosed
@@ -71,7 +71,8 @@ IsLexicalFlaw text open_comment i j = (begins_comment (behind text i) ≡ true) 
 IsLexicalFlaw text stray_closing i j = ⊥
 IsLexicalFlaw text open_group i j = ⊥
 
--- It stands there, and all before it is read; a group isn't closed where all of the text is read and it is the outermost that is open.
+-- The error is at this span, and all before it is read; a group is unclosed if the whole text is read and it is the outermost
+-- open one.
 abbrev pub IsFlaw : List ℕ → Flaw → Span → Type 0
 IsFlaw text stray_closing s = (d : Delimiter) × (around : List Opening) × IsReadTo text s.start around × IsPieceAt text (closing d) s.start s.stop × NotInnermost d around
 IsFlaw text open_group s = (d : Delimiter) × (inner : List Opening) × IsReadTo text (length text) (inner ++ (d, s) ∷ [])
@@ -79,7 +80,7 @@ IsFlaw text flaw s = (around : List Opening) × IsReadTo text s.start around × 
 
 -- REFUSALS
 
--- one thing is wrong at byte i, where a piece should begin
+-- one error at byte i, where a piece should start
 abbrev pub IsLexicalFault : List ℕ → ℕ → List FaultValue → Type 0
 IsLexicalFault text i (f ∷ []) = ((at f.0).start ≡ i) × (i < (at f.0).stop) × ((at f.0).stop ≤ length text)
     × ((flaw : Flaw) × (f.1 ≡ words_of flaw) × IsLexicalFlaw text flaw i (at f.0).stop)
@@ -90,7 +91,7 @@ abbrev pub FollowsAsFault : List ℕ → ℕ → List FaultValue → Type 0
 FollowsAsFault text i (f ∷ fs) = IsBlank text i (at f.0).start × IsLexicalFault text (at f.0).start (f ∷ fs)
 FollowsAsFault text i [] = ⊥
 
--- memory was refused, or one thing is wrong in the text, which the words say, at the bytes of the span
+-- memory was refused, or there is one error in the text, with its message and at its span
 abbrev pub IsRefusal : List ℕ → List FaultValue → Type 0
 IsRefusal text [] = Unit {0}
 IsRefusal text (f ∷ []) = (flaw : Flaw) × (f.1 ≡ words_of flaw) × IsFlaw text flaw (at f.0)

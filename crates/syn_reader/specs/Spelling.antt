@@ -1,4 +1,4 @@
--- Which token stream a text spells.
+-- The token stream of a text.
 use Rattle.std.specs.Prelude.{◌≡◌, ◌<◌, ◌≤◌, ℕ, ◌+◌, Bool, true, false, not, ◌&&◌, ◌==◌, List, [], ◌∷◌, ◌++◌, drop, length, codes, if◌then◌else◌, Some}
 use Rattle.std.specs.Str.{NoCharPasses, chars}
 use Rattle.std.specs.Char.{encode_utf8, is_not_whitespace}
@@ -13,16 +13,16 @@ use Rattle.syn_reader.specs.Scanning.{behind, first_passes, Absent, Scanned, lit
 use Rattle.syn_reader.specs.Docs.{IsDoc, IsNoDoc, quoted}
 use Rattle.syn_reader.specs.Flat.{Token, one, punctuation, opened, closed, flat}
 
--- the first character of the bytes passes the test; false where there is none
+-- the first character of the bytes passes the test; false if there is none
 abbrev pub begins_by : (ℕ → Bool) → List ℕ → Bool
 begins_by test bytes = first_passes test (chars bytes)
 
--- these bytes stand in the text from byte i to byte j
+-- these bytes are the text from byte i to byte j
 pub record Stands (text bytes : List ℕ) (i j : ℕ) : Type 0 where
   pub split : drop i text ≡ bytes ++ drop j text
   pub ends : j ≡ i + length bytes
 
--- from byte i to byte j the text is white space, or there is nothing
+-- the text from byte i to byte j is white space or empty
 abbrev pub IsBlank : List ℕ → ℕ → ℕ → Type 0
 IsBlank text i j = (space : List ℕ) × NoCharPasses is_not_whitespace space × Stands text space i j
 
@@ -42,11 +42,11 @@ closing_delimiter None = []
 pub data Piece : Type 0 where
   word : List ℕ → Piece  -- an identifier
   constant : LitKind → List ℕ → Piece  -- a literal
-  mark : ℕ → Bool → Piece  -- a character of a mark, Joint (true) or Alone (false)
+  mark : ℕ → Bool → Piece  -- a character of a mark, joint (true) or alone (false)
   opening : Delimiter → Piece
   closing : Delimiter → Piece
-  comment : List ℕ → Piece  -- a comment that is no doc comment
-  doc : List ℕ → Bool → List ℕ → Piece  -- a doc comment, whether it stands in what it speaks of, and what it says
+  comment : List ℕ → Piece  -- a comment that is not a doc comment
+  doc : List ℕ → Bool → List ℕ → Piece  -- a doc comment, whether it is inside the item that it documents, and its content
 
 -- its bytes
 abbrev pub bytes_of : Piece → List ℕ
@@ -58,11 +58,11 @@ bytes_of (closing d) = closing_delimiter d
 bytes_of (comment x) = x
 bytes_of (doc x inner said) = x
 
--- a mark's character is Joint where another follows directly, unless that begins a comment; the `'` of a lifetime always is
+-- a mark's character is joint if another follows directly, unless that starts a comment; the `'` of a lifetime always is
 abbrev pub joint_before : ℕ → List ℕ → Bool
 joint_before c rest = if c == 39 then first_passes may_start rest else first_passes is_punct_character rest && not (begins_comment rest)
 
--- a mark begins with this character, before these: with any of those of marks, but with `'` only before an identifier (a lifetime)
+-- a mark starts with this character, before these: any character of marks, but `'` only before an identifier (a lifetime)
 abbrev pub begins_mark : ℕ → List ℕ → Bool
 begins_mark c rest = if c == 39 then first_passes may_start rest else is_punct_character c
 
@@ -70,7 +70,7 @@ begins_mark c rest = if c == 39 then first_passes may_start rest else is_punct_c
 abbrev pub IsComment : List ℕ → ℕ → ℕ → Type 0
 IsComment text i j = (begins_comment (behind text i) ≡ true) × (after_comment (drop 1 (behind text i)) ≡ Some (behind text j))
 
--- what must hold of a piece from byte i to byte j besides that its bytes stand there: it is cut neither too short nor too long
+-- the conditions on a piece from byte i to byte j, apart from its bytes: it is neither too short nor too long
 abbrev pub IsWhole : List ℕ → Piece → ℕ → ℕ → Type 0
 IsWhole text (word x) i j = (is_identifier x ≡ true) × (literal_at (behind text i) ≡ Absent)
     × ((c : ℕ) × (rest : List ℕ) × (behind text i ≡ c ∷ rest) × (behind text j ≡ after_word c rest))
@@ -82,7 +82,7 @@ IsWhole text (closing d) i j = is_visible d ≡ true
 IsWhole text (comment x) i j = IsComment text i j × IsNoDoc x
 IsWhole text (doc x inner said) i j = IsComment text i j × IsDoc x inner said
 
--- it stands there, and is not empty
+-- the piece is there, and is not empty
 abbrev pub IsPieceAt : List ℕ → Piece → ℕ → ℕ → Type 0
 IsPieceAt text p i j = Stands text (bytes_of p) i j × (i < j) × IsWhole text p i j
 
@@ -92,7 +92,7 @@ doc_tokens inner said s =
     (punctuation 35 false s ∷ (if inner then punctuation 33 false s ∷ [] else []))
     ++ (opened Bracket s ∷ one (ident (codes "doc")) s ∷ punctuation 61 false s ∷ one (literal Str (quoted (chars said))) s ∷ closed Bracket s ∷ [])
 
--- the tokens that it stands for
+-- the tokens that it represents
 abbrev pub tokens_of : Piece → Span → List Token
 tokens_of (word x) s = one (ident x) s ∷ []
 tokens_of (constant k x) s = one (literal (kind_of k) x) s ∷ []
@@ -102,8 +102,7 @@ tokens_of (closing d) s = closed d s ∷ []
 tokens_of (comment x) s = []
 tokens_of (doc x inner said) s = doc_tokens inner said s
 
--- From byte i to byte j the text is cut into pieces with white space between them, and these are their tokens, each with the
--- span of its piece.
+-- The text from byte i to byte j is split into pieces with white space between them, each with its span.
 abbrev pub IsCut : List ℕ → ℕ → List (Piece × Span) → ℕ → Type 0
 IsCut text i [] j = IsBlank text i j
 IsCut text i ((p, s) ∷ ps) j = IsBlank text i s.start × IsPieceAt text p s.start s.stop × IsCut text s.stop ps j
@@ -112,11 +111,11 @@ abbrev pub all_tokens : List (Piece × Span) → List Token
 all_tokens [] = []
 all_tokens ((p, s) ∷ ps) = tokens_of p s ++ all_tokens ps
 
--- the text is cut into pieces from its first byte to its last, whose tokens the stream has
+-- the whole text is split into pieces, whose tokens are those of the stream
 abbrev pub Spells : List ℕ → Stream → Type 0
 Spells text stream = (pieces : List (Piece × Span)) × IsCut text 0 pieces (length text) × (flat stream ≡ all_tokens pieces)
 
--- memory was refused, or one thing is wrong, where something stands in a text of so many bytes
+-- memory was refused, or there is one error, whose span is not empty and in a text of so many bytes
 abbrev pub IsFaultWithin : ℕ → List FaultValue → Type 0
 IsFaultWithin n [] = Unit {0}
 IsFaultWithin n (f ∷ []) = ((at f.0).start < (at f.0).stop) × ((at f.0).stop ≤ n)

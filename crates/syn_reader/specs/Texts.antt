@@ -1,22 +1,22 @@
--- THE TEXT OF A TOKEN STREAM: its trees and the delimiters of its groups with one space between them, and none behind a mark's
--- character that is Joint.
+-- THE TEXT OF A TOKEN STREAM: its trees and the delimiters of its groups, separated by one space, except after a joint
+-- character of a mark.
 use Rattle.std.specs.Prelude.{ℕ, Bool, true, false, List, [], ◌++◌, codes}
 use Rattle.std.specs.Char.{encode_utf8}
 use Rattle.syn_grammar.specs.Tokens.{Leaf, ident, literal, None, Stream, end, leaf, punct, group}
 use Rattle.syn_reader.specs.Spelling.{opening_delimiter, closing_delimiter}
 
--- how an identifier or a literal is written
+-- the text of an identifier or a literal
 abbrev pub spelling_of_leaf : Leaf → List ℕ
 spelling_of_leaf (ident x) = x
 spelling_of_leaf (literal k x) = x
 
--- what stands before a tree or a delimiter: one space, or nothing where it follows directly
+-- the text before a tree or a delimiter: one space, or nothing if it follows directly
 abbrev pub gap : Bool → List ℕ
 gap true = []
 gap false = codes " "
 
--- Whether what comes behind the stream follows directly: behind a mark's character where that is Joint, and behind nothing
--- else. A stream that writes nothing leaves it as it was before.
+-- Whether a tree after the stream follows directly: after a joint character of a mark, and after nothing else. A stream without
+-- text leaves this unchanged.
 abbrev pub follows_directly : Bool → Stream → Bool
 follows_directly before end = before
 follows_directly before (leaf x sp m) = follows_directly false m
@@ -24,8 +24,8 @@ follows_directly before (punct c joint sp m) = follows_directly joint m
 follows_directly before (group None o c i m) = follows_directly (follows_directly before i) m
 follows_directly before (group d o c i m) = follows_directly false m
 
--- What a stream writes, its first space included; the flag says whether its first tree follows directly. A group is its two
--- delimiters with its content between them, an invisible group its content alone.
+-- The text of a stream, including the space before it; the flag says whether its first tree follows directly. A group is its
+-- two delimiters with its content between them, an invisible group its content alone.
 abbrev pub text_behind : Bool → Stream → List ℕ
 text_behind direct end = []
 text_behind direct (leaf x sp m) = gap direct ++ (spelling_of_leaf x ++ text_behind false m)
@@ -34,6 +34,6 @@ text_behind direct (group None o c i m) = text_behind direct i ++ text_behind (f
 text_behind direct (group d o c i m) =
     gap direct ++ (opening_delimiter d ++ (text_behind false i ++ (gap (follows_directly false i) ++ (closing_delimiter d ++ text_behind false m))))
 
--- the whole text: no space stands before it
+-- the whole text: there is no space before it
 abbrev pub text_of : Stream → List ℕ
 text_of stream = text_behind true stream

@@ -1,4 +1,4 @@
-//! The reader of text: token streams from text, and text from token streams.
+//! The reader: token streams from text, and text from token streams.
 #![tactic(auto)]
 
 pub mod reader;

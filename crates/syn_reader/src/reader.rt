@@ -1,4 +1,4 @@
-//! Token streams from text, and text from token streams.
+//! Lexing text to token streams, and printing token streams as text.
 ghost use Rattle.std.specs.Prelude.{◌≡◌, true, length, IfOk, IfErr, MatchResult};
 ghost use Rattle.syn_grammar.specs.Tokens.{visible};
 ghost use Rattle.syn_reader.specs.Spelling.{Spells, IsFaultWithin};
@@ -18,14 +18,14 @@ use std::alloc::Global;
 use syn_tokens::error::Result;
 use syn_tokens::stream::TokenStream;
 
-/// The token stream that a text spells: identifiers, lifetimes, literals, marks and groups, with the byte offsets at which
-/// each begins and ends. White space and comments stand between tokens; a doc comment is the attribute that it stands for,
-/// all of whose tokens have the comment's span. Every text gives an answer, however deep its groups are.
+/// The token stream of a text: identifiers, lifetimes, literals, marks and groups, with their byte offsets. White space and
+/// comments separate tokens; a doc comment becomes the attribute that it denotes, all of whose tokens have the comment's span.
+/// The function returns for every text, however deep the groups are nested.
 ///
-/// Refused with one fault, at the bytes that it names: `unexpected character` at one that no token begins with,
-/// `unterminated literal` and `unterminated comment` at the beginning of what has no end, `unbalanced group` at a closing
-/// delimiter that doesn't belong to the innermost open group, or, at the end of the text, at the outermost group that is still
-/// open. Refused without a fault where memory is.
+/// Fails with one fault, at the bytes that it names: `unexpected character` at a character that no token starts with,
+/// `unterminated literal` and `unterminated comment` at the start of an unclosed one, `unbalanced group` at a closing delimiter
+/// that doesn't match the innermost open group, or, at the end of the text, at the outermost open group. Fails without a fault
+/// if memory is refused.
 pub fn read_tokens(alloc: Global, text: &str) -> Result<TokenStream>
     ensures visible { IfOk result (λ stream. visible stream ≡ true) }
     ensures spelled { MatchResult result (λ stream. Spells text.now stream) (IsFaultWithin (length text.now)) }

@@ -21,14 +21,14 @@ use Rattle.syn_recognize.specs.Copies.{Copy, Reached, Refused, copied, copied_ro
 use Rattle.syn_recognize.proofs.Ways.{way_nothing, way_unshown, way_both, way_left, way_right, way_node, way_shape, way_group, way_raw, way_mark, way_rest, way_order}
 use Rattle.syn_recognize.proofs.Writes.{adds_more, adds_none, adds_group}
 
--- AN ANSWER
+-- THE RESULT OF A PARSE
 
 -- of a tree that was put into another of the same tokens
 pub wrapped : (f : Syntax → Syntax) → ((a : Bool) (s : Syntax) → way a (f s) ≡ way a s) → (w : Written) (o : Out) → copied w (wrap f o) ≡ copied w o
 wrapped f h w None = refl
 wrapped f h w (Some p) = ap (λ i. Reached (adds w i) p.1) (h w.printing p.0)
 
--- behind what was written before
+-- after what was written before
 pub behind : (i : Stream) (f : Syntax → Syntax) (w : Written) → ((s : Syntax) → way w.printing (f s) ≡ i ⧺ way w.printing s) → (o : Out) → copied w (wrap f o) ≡ copied (adds w i) o
 unfolding adds
 behind i f w h None = refl

@@ -22,7 +22,7 @@ use Rattle.syn_recognize.proofs.Ways.{way_shape}
 use Rattle.syn_recognize.proofs.Writes.{adds_more, adds_nothing}
 use Rattle.syn_recognize.proofs.Todo.{leads_same}
 
--- A FORM reads as a plan that keeps nothing: behind what was written (i), at its end the text of the plan's value was written
+-- A FORM is read as a plan that doesn't store verbatim: the output is what was written (i), and then the text of the plan's value
 abbrev pub Flat : Bool → Grammar → Plan → Stream → Stream → Type 0
 Flat a g (plan.reads h f) i m = (g ≡ first g & second g) × ((parse_form (first g) ≡ parse_form h) × ((s : Syntax) (r : Stream) → parse_form h m ≡ Some (s, r) → Flat a (second g) (f s) (i ⧺ way a s) r))
 Flat a g (plan.turns c p q) i m = (g ≡ when c then first g else second g) × ((sees c m ≡ true → Flat a (first g) p i m) × (sees c m ≡ false → Flat a (second g) q i m))
@@ -55,7 +55,7 @@ module _ (k : Rule) (b : Stream) (w : Written) where
   flat_is g (plan.keeps p) i m e = absurd e
   flat_is g plan.done i m e = absurd e
 
--- A form reads as a plan that keeps all
+-- A form is read as a plan that stores verbatim
 abbrev pub Kept : Grammar → Plan → Type 0
 Kept g (plan.reads h f) = (g ≡ first g & second g) × ((parse_form (first g) ≡ parse_form h) × ((s : Syntax) → Kept (second g) (f s)))
 Kept g (plan.turns c p q) = (g ≡ when c then first g else second g) × (Kept (first g) p × Kept (second g) q)
@@ -111,7 +111,8 @@ same_written u e g m v r = go (parse_form g m)
     go None q = sym (ap (written_in u) q)
     go (Some p) q = sym (ap (written_in u) q) ∙ adds_nothing u (way u.printing p.0) e
 
--- WHAT A COURSE PROMISES of a plan: behind what was written (i), where it is guessed that it is not kept; and where it is guessed that it is
+-- WHAT A COURSE PROMISES of a plan: after what was written (i), where the guess is that it is not stored verbatim; and where the guess is
+-- that it is
 module _ (k : Rule) (b : Stream) (w : Written) where
   abbrev pub Written-as : Course → Plan → Option Bool → Stream → Stream → Type 0
   Written-as d p l i m = Leads (copied w (run_plan p k b m)) (copy_course d l (adds w i) m)
@@ -181,7 +182,8 @@ module _ (k : Rule) (b : Stream) (w : Written) where
       go true x y = x refl
       go false x y = y refl
 
--- A COURSE goes as a plan, behind what was written (i) and at a stream (m). Where they differ in form, it is said that they do the same.
+-- A COURSE does what a plan does, after what was written (i) and at a stream (m). Where they differ in form, a premise says that they
+-- agree.
 pub record Meets (a : Bool) (d : Course) (p : Plan) (i m : Stream) : Type 0 where
   pub written : (k : Rule) (b : Stream) (w : Written) → w.printing ≡ a → (l : Option Bool) → Fair a l → Written-as k b w d p l i m
   pub all_kept : (k : Rule) (b : Stream) (w : Written) → w.printing ≡ a → (v : Written) → Kept-as k b w d p v m
@@ -219,12 +221,12 @@ module _ (k : Rule) (b : Stream) (w : Written) where
   goes_kept (lists d) p i v m e = e.all_kept k b w refl v
   goes_kept _ _ i v m e = absurd e
 
--- WHAT A VALUE'S PARTS LEAVE, one behind the other
+-- WHAT THE PARTS OF A VALUE WRITE, one after the other
 
 pub data Parts : Type 0 where
   none : Parts
   piece : Syntax → Parts
-  untagged : Syntax → Parts  -- the value of a piece without what says that it has no tag
+  untagged : Syntax → Parts  -- the value of a piece without the mark that it has no tag
   both : Parts → Parts → Parts
 
 abbrev pub behind : Bool → Stream → Parts → Stream

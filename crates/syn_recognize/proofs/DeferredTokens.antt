@@ -1,4 +1,4 @@
--- Deferred tokens, and what they stand for.
+-- Deferred tokens, and the trees they denote.
 use Rattle.std.proofs.Common.{◌≡◌, ℕ, zero, suc, Bool, true, false, Option, Some, None, refl, sym, ap, ◌∙◌}
 use Rattle.syn_grammar.specs.Tokens.{Delimiter, Brace, Stream, end, plain}
 use Rattle.syn_grammar.specs.Rules.{Rule, block, statements}
@@ -21,8 +21,8 @@ kinds_read_again (suc (suc zero)) = refl
 kinds_read_again (suc (suc (suc zero))) = refl
 kinds_read_again (suc (suc (suc (suc n)))) = refl
 
--- ---- tokens that are kept
--- a tree that is read of what is shown of it
+-- ---- tokens that are stored
+-- a tree that is read of its shown tokens
 kept : (k : Rule) (s : Syntax) (source printed : Stream) → source ≡ show s → printed ≡ print s → parse_rule k (show s) ≡ Some (s, end) → IsDeferred k source printed × (read_as k source ≡ s)
 kept k s source printed h p e =
     let f : parse_rule k source ≡ Some (s, end) = ap (parse_rule k) h ∙ e in
@@ -33,7 +33,7 @@ kept k s source printed h p e =
 abbrev Written : Rule → Stream → Stream → Stream → Stream → Type 0
 Written k ts source printed r = (s : Syntax) × (parse_rule k ts ≡ Some (s, r)) × (source ≡ show s) × (printed ≡ print s)
 
--- what was read in front of a rest is kept, and so is what was read as a whole
+-- what was read before a rest is stored, and so is what was read as a whole
 alone : (k : Rule) → stands_alone k ≡ true → (ts source printed r : Stream) → Written k ts source printed r → IsDeferred k source printed × (parse_rule k ts ≡ Some (read_as k source, r))
 alone k v ts source printed r (s, e, h, p) =
     let d = kept k s source printed h p (show_stands_alone k v ts s r e) in

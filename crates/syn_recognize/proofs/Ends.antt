@@ -1,4 +1,4 @@
--- Whether token trees end with a group in braces: of what forms the syntax tree tells it.
+-- Whether token trees end with a group in braces: the forms whose syntax tree decides it.
 use Rattle.std.proofs.Common.{◌≡◌, Bool, true, false, List, [], ◌∷◌, refl, sym, ap, ◌∙◌, true≢false, ◌⊎◌, inl, inr}
 use Rattle.syn_grammar.specs.Tokens.{Span, Delimiter, Paren, Brace, Bracket, None as Invisible, Stream, end, leaf, punct, group, ◌⧺◌, and}
 use Rattle.syn_grammar.specs.Rules.{Rule, attributes, module_path, module_words, type_path, type_words, type_arguments, return_type, generic_arguments, qualified_path, path_as_type, type, expression_path, expression_words, qualified_expression_path, path_as_expression, macro_invocation, pattern, block, body, primary, block_like, if_expression, loop_expression, postfixes, member, unary, casts, cast, products, product, sums, sum, shifts, shift, bit_ands, bit_and, bit_xors, bit_xor, bit_ors, bit_or, compared, comparison, conjunctions, conjunction, disjunctions, disjunction, assigned, whole_expression, plain_body, more_type_words, whole_expression_head, disjunction_head, assigned_head, conjunction_head, disjunctions_head, comparison_head, conjunctions_head, bit_or_head, compared_head, bit_xor_head, bit_ors_head, bit_and_head, bit_xors_head, shift_head, bit_ands_head, sum_head, shifts_head, product_head, sums_head, cast_head, products_head, unary_head, primary_head}
@@ -15,7 +15,7 @@ ends_append b (leaf x sp m) j = ends_append false m j
 ends_append b (punct c k sp m) j = ends_append false m j
 ends_append b (group d o c i m) j = ends_append (is_brace d) m j
 
--- THE FORMS of which this holds, where it holds of these rules: none is kept as tokens, left out, or a row by itself
+-- THE FORMS of which this holds, where it holds of these rules: none is stored verbatim, left out, or a row by itself
 abbrev pub known : List Rule
 known =
     attributes ∷ module_path ∷ module_words ∷ type_path ∷ type_words ∷ type_arguments ∷ return_type ∷ generic_arguments ∷ qualified_path ∷ path_as_type ∷ type

@@ -1,10 +1,10 @@
--- What a token tells of what stands behind it.
+-- Facts that a token states of the tokens after it.
 use Rattle.std.proofs.Common.{◌≡◌, Bool, true, false, [], ◌∷◌, ◌++◌, refl, sym, ap, ◌∙◌, true≢false}
 use Rattle.syn_grammar.specs.Words.{Text, keywords, contextual}
 use Rattle.syn_grammar.specs.Tokens.{ident, or, and, pick, has_fact, Fact, same_fact, Asked, Lookahead, facts_for, leaf_terminal, answers, is_word, one_of_texts, Word, Name, Look}
 use Rattle.syn_grammar.proofs.Sets.{same_text_eq}
 
--- a fact that is not asked for is not told
+-- a lookahead that doesn't test a fact doesn't depend on it
 abbrev pub asks : Fact → Asked → Bool
 asks n [] = false
 asks n (p ∷ l) = or (same_fact n p.1) (asks n l)
@@ -18,7 +18,7 @@ not_told n (p ∷ l) f e = go (answers p.0 f) (same_fact n p.1) refl (not_told n
     go true false q h = ap (λ z. or z (has_fact n (facts_for l f))) q ∙ h (ap (λ z. or z (asks n l)) (sym q) ∙ e)
     go false false q h = h (ap (λ z. or z (asks n l)) (sym q) ∙ e)
 
--- of a condition that is told first, and of none behind it
+-- of a condition that is stated first, without others after it
 pub told_first : (n : Fact) (c : Look) (l : Asked) (f : Lookahead) → same_fact n n ≡ true → asks n l ≡ false → has_fact n (facts_for ((c, n) ∷ l) f) ≡ answers c f
 told_first n c l f r e = go (answers c f)
   where

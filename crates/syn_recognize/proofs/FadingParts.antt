@@ -25,7 +25,7 @@ use Rattle.syn_recognize.proofs.Copied.{nothing, then_is}
 use Rattle.syn_recognize.proofs.Solid.{NeverBare, never_bare, rule_never_bare, shown, shows}
 use Rattle.syn_recognize.proofs.Lists.{none_stands, one_stands}
 
--- WHAT IS KEPT OF SUCH A PART
+-- WHAT IS STORED OF SUCH A PART
 
 gone : (a : Bool) → way a (Vanishing false (Right Nothing)) ≡ end
 gone true = refl
@@ -74,7 +74,7 @@ module _ (c : Look) (g : Grammar) (w : Written) (ts : Stream) where
   unfolding copy_form
   as_printed e n = present e ∙ kept_printed w (parse_form g ts) n
 
--- A LIST BEHIND A COLON OR A WORD
+-- A LIST AFTER A COLON OR A WORD
 
 not : (b : Bool) → no b ≡ true → b ≡ false
 not false h = refl
@@ -174,7 +174,7 @@ module _ (k : fading.Fading) (w : Written) (ts : Stream) where
 abbrev pub parameters : Grammar
 parameters = ordered (rule lifetime_parameter) parameter
 
--- of parameters of which there is one
+-- of at least one parameter
 pub parameters_never : (x : Syntax) (m ts : Stream) → take_mark less ts ≡ Some (x, m) → sees at_row_end m ≡ false → NeverBare (parse_form parameters ts)
 parameters_never x m ts h s = subst NeverBare (sym (ap (λ o. row_opened o (rows (member List-m.Parameters))) h)) (listed (rows (member List-m.Parameters) m) some)
   where
@@ -224,7 +224,7 @@ parameters_never x m ts h s = subst NeverBare (sym (ap (λ o. row_opened o (rows
         one None (Some z) = after_right (sees at_row_comma z.1) z.0 z.1
         one None None = λ y i. absurd (cc i)
 
--- (by the look at which they stand)
+-- (by the lookahead under which they are read)
 module _ (c : Look) (w : Written) (ts : Stream) where
   pub generics_absent : sees c ts ≡ false → copy_form (vanishing false c parameters) w ts ≡ Reached w ts
   generics_absent e = absent c parameters w ts e

@@ -55,7 +55,7 @@ generics_stand w ts e = when_is at_generics impl_parameters empty w ts ∙ ap (�
 pub generics_lack : (w : Written) (ts : Stream) → sees at_generics ts ≡ false → copy_form shown_generics w ts ≡ Reached w ts
 generics_lack w ts e = when_is at_generics impl_parameters empty w ts ∙ ap (λ v. pick v (copy_form impl_parameters w ts) (copy_form empty w ts)) e ∙ empty_is w ts
 
--- behind `for`
+-- after `for`
 pub for_led : (ts r : Stream) (s : Syntax) → parse_form (token [] (word w_for)) ts ≡ Some (s, r) → leads_on ts ≡ sees at_generics r
 for_led ts r s e = ap generics_behind e
 

@@ -1,4 +1,4 @@
--- What is written on the course of an impl behind `impl` is what is written of its plan.
+-- The course of an impl after `impl` writes what its plan writes.
 use Rattle.std.proofs.Common.{◌≡◌, Bool, true, false, Option, [], ◌∷◌, Some, None, refl, sym, ap, ap₂, ◌∙◌, subst, true≢false}
 use Rattle.syn_grammar.specs.Words.{less, greater, exclamation, w_for}
 use Rattle.syn_grammar.specs.Tokens.{Stream, end, ◌⧺◌, or, pick, at_generics}
@@ -83,7 +83,7 @@ seen (Some x) (Some true) z true A q h f = f None (h.0, or_true z)
 seen (Some x) (Some false) z true A q h f = tt
 seen (Some x) (Some y) z false A q h f = f (Some y) (h.0, ap (λ t. or t false) h.1)
 
--- THE GENERICS: what was written of them (j) behind what stood before (i); their value, and what was guessed
+-- THE GENERICS: what was written of them (j) after what was written before (i); their value, and the guess
 abbrev Stands : Bool → Option Bool → Syntax → Stream → Stream → Type 0
 Stands false None g i j = j ≡ i ⧺ way false g
 Stands false (Some x) g i j = ⊥
@@ -97,7 +97,7 @@ shown_bare b g false e = ap (λ v. show (pick v (Right Nothing) (renew g))) e
 shown_some : (b : Bool) (g : Syntax) (x : Bool) → b ≡ false → show (pick b (pick x no_generics (Right Nothing)) (renew g)) ≡ way true g
 shown_some b g x e = ap (λ v. show (pick v (pick x no_generics (Right Nothing)) (renew g))) e
 
--- an impl's generics, and what stands behind them
+-- an impl's generics, and what follows them
 impl_text : (a : Bool) (l m : Option Bool) (z : Bool) (g s : Syntax) (i j : Stream) → Stands a l g i j → Known l m z → (m ≡ Some true → ⊥) → led (renew s) ≡ z → i ⧺ way a (Impl g s) ≡ j ⧺ way a s
 impl_text false None m z g s i j h k n e = sym (append_append i (show g) (show s)) ∙ ap (λ t. t ⧺ show s) (sym h)
 impl_text false (Some x) m z g s i j h k n e = absurd h
@@ -111,7 +111,7 @@ impl_text true (Some x) m z g s i j h k n e =
     guess_is (Some true) k n = absurd (n refl)
     guess_is (Some false) k n = k.0 ∙ sym k.1
 
--- WHAT STANDS BEHIND THE GENERICS, of an impl that may be kept as tokens, and of one that may not
+-- WHAT FOLLOWS THE GENERICS, of an impl that may be stored verbatim, and of one that may not
 
 abbrev body_form : Grammar
 body_form = rule impl_body & empty
@@ -158,7 +158,7 @@ path_alone = turns at_module_path plain_course (rest (rule type & body_form))
 abbrev pub alone_course : Course
 alone_course = turns at_exclamation (reads (mark false exclamation) brace_alone) path_alone
 
--- (by the value of all, from that of the generics and what stands behind them)
+-- (by the value of all, from that of the generics and what follows them)
 module _ (N : Syntax → Syntax) where
   abbrev ending : Syntax → (Syntax → Syntax) → Plan
   ending g S = plan.reads (rule impl_body) λ b. plan.ends (N (Impl g (S b)))
@@ -209,7 +209,7 @@ module _ (N : Syntax → Syntax) where
     abbrev As : Course → Plan → Option Bool → Stream → Stream → Type 0
     As d p l e m = Written-as k b w d p l e m
 
-    -- the body of an impl, behind what was written by then (e)
+    -- the body of an impl, after what was written by then (e)
     body_written : (l n : Option Bool) (z : Bool) (g : Syntax) (S : Syntax → Syntax) (j e m : Stream) → Stands w.printing l g i j → Known l n z →
         ((t : Syntax) (r : Stream) → Reads (rule impl_body) m t r → led (renew (S t)) ≡ z) → ((t : Syntax) → j ⧺ way w.printing (S t) ≡ e ⧺ way w.printing t) → As (rest body_form) (ending g S) n e m
     body_written l (Some true) z g S j e m h q f x = tt
@@ -230,7 +230,7 @@ module _ (N : Syntax → Syntax) where
         (λ o y. reads_written k b w (rule for_self_type) (rule for_self_type) (rest body_form) (λ s. ending g (S s)) o e m refl
         (λ s r u. body_written l o (or z (leads_on m)) g (S s) j (e ⧺ way w.printing s) r h y (λ t v c. f s t r v u c) (λ t. x s t)))
 
-    -- `for` stands there or not
+    -- `for` is next or not
     path_written : (l n : Option Bool) (z : Bool) (g : Syntax) (S : Syntax → Syntax → Syntax) (j e m : Stream) → Stands w.printing l g i j → Known l n z →
         ((s t : Syntax) (q r : Stream) → Reads optional_self_type m s q → Reads (rule impl_body) q t r → led (renew (S s t)) ≡ or z (leads_on m)) →
         ((s t : Syntax) → j ⧺ way w.printing (S s t) ≡ (e ⧺ way w.printing s) ⧺ way w.printing t) → As behind_path (plan.reads optional_self_type λ s. ending g (S s)) n e m
@@ -264,7 +264,7 @@ module _ (N : Syntax → Syntax) where
     known_first None = tt
     known_first (Some x) = (refl, refl)
 
-    -- behind `!` and a path
+    -- after `!` and a path
     for_written : (l n : Option Bool) (g x : Syntax) (j m r : Stream) → Stands w.printing l g i j → Known l n (sees at_generics m) → Reads (punctuation exclamation) m x r →
         As (reads (rule type_path) (self_type (rest body_form))) (for_type g x) n (j ⧺ way w.printing x) r
     for_written l n g x j m r h q u =
@@ -362,7 +362,7 @@ module _ (N : Syntax → Syntax) where
     pub alone_written : (l : Option Bool) (g : Syntax) (j m : Stream) → Stands w.printing l g i j → As (behind-generics alone_course) (alone_plan g) l j m
     alone_written l g j m h = seen l l false (sees at_generics m) (copied w (run_plan (alone_plan g) k b m)) (λ o. copy_course alone_course o (adds w j) m) (known_first l) (λ o q. alone_from l o g j m h q)
 
-  -- WHERE IT IS GUESSED THAT ALL IS KEPT
+  -- WHERE THE GUESS IS THAT ALL IS STORED VERBATIM
   module _ (k : Rule) (b : Stream) (w : Written) where
     abbrev Aside : Course → Plan → Written → Stream → Type 0
     Aside d p v m = Kept-as k b w d p v m
@@ -417,7 +417,7 @@ module _ (N : Syntax → Syntax) where
         (λ x r u q. turns_kept k b w at_brace (rest body_form) for_course (never_plan g x) (for_type g x) u r (λ y. tt) (λ y. for_kept g x u r)))
         (λ s. turns_kept k b w at_module_path plain_course (rest (rule type & body_form)) (path_plan g) (plan.reads (rule type) (end_plan g)) v m (λ y. plain_kept g v m) (λ y. tt))
 
--- THE GENERICS, and what stands behind them: of any such course and plan
+-- THE GENERICS, and what follows them: of any such course and plan
 module _ (d : Course) (P : Syntax → Plan) where
   abbrev pub generics_plan : Plan
   generics_plan = plan.turns at_generics (plan.reads kept_generics λ g. P (Left g)) (P absent)
@@ -489,7 +489,7 @@ module _ (d : Course) (P : Syntax → Plan) where
             stands : (g : Syntax) → bare g ≡ false → Stands w.printing None g i (i ⧺ way w.printing g)
             stands g h = subst (λ a. Stands a None g i (i ⧺ way a g)) (sym e) (h, refl)
 
-        -- behind `<`
+        -- after `<`
         behind_less : sees at_generics m ≡ true → (o : Out) → take_mark less m ≡ o → Leads (copied w (follow (λ g r. run_plan (P (Left g)) k b r) (parse_form kept_generics m))) A
         behind_less y None z = refused (parse_form kept_generics m) (ap (λ t. row_opened t (rows (member List-m.Parameters))) z) (none_refused x (copy_course d) (adds w i) m y z)
         behind_less y (Some p) z = ends (sees at_row_end p.1) refl
@@ -513,7 +513,7 @@ module _ (d : Course) (P : Syntax → Plan) where
         go true y = subst (λ p. Leads (copied w p) A) (sym (parsed true y)) (behind_less y (take_mark less m) refl)
         go false y = subst (λ p. Leads (copied w p) A) (sym (parsed false y)) (none_left absent m refl (none_absent x (copy_course d) (adds w i) m y))
 
-  -- kept
+  -- stored verbatim
   kept_lists : (k : Rule) (b : Stream) (w : Written) → ((g : Syntax) (v : Written) (m : Stream) → Kept-as k b w d (P g) v m) → (v : Written) (m : Stream) → Kept-as k b w (lists d) generics_plan v m
   unfolding copy_form
   kept_lists k b w each v m = go (sees at_generics m) refl

@@ -19,7 +19,7 @@ module _ (x : Bool) (P : Option Bool → Written → Stream → Copy) (w : Writt
   abbrev then : Written → Stream → Copy
   then v r = P (Some x) (adds v (guessed_generics x)) r
 
-  -- no generics stand there
+  -- no generics are next
   pub none_absent : sees at_generics ts ≡ false → guessed_lists (no_parameters ts) x P w ts ≡ P (Some x) (adds w (guessed_generics x)) ts
   none_absent e = by_empty true (ap (λ n. pick n (ends_next (take_mark less ts)) true) e) ∙ ap (λ o. next o then) (generics_absent at_generics w ts e)
 

@@ -17,7 +17,7 @@ told_bang : (b : Bool) → has_fact Before_bang (pick b (Before_bang ∷ []) [])
 told_bang true = refl
 told_bang false = refl
 
--- behind `#`
+-- after `#`
 behind_pound : (j : Bool) (sp : Span) (m : Stream) → has_fact Before_bang (lookahead (punct 35 j sp m)).facts ≡ answers (at_mark exclamation) (lookahead (past (punct 35 j sp m)))
 behind_pound false sp m = told_bang (answers (at_mark exclamation) (lookahead m))
 behind_pound true sp m = go (lookahead m).terminal refl

@@ -1,4 +1,4 @@
--- Where an integer stands next.
+-- Where an integer is next.
 use Rattle.std.proofs.Common.{◌≡◌, Bool, true, false, [], ◌∷◌, Some, None, refl, sym, ap, ◌∙◌}
 use Rattle.syn_grammar.specs.Words.{Text}
 use Rattle.syn_grammar.specs.Tokens.{Span, LitKind, Str, ByteStr, CStr, Byte, Char, Int, Float, ident, literal, Stream, end, leaf, punct, group, at_literal}
@@ -50,7 +50,7 @@ integer_seen ts k x sp r e = literal_seen ts (kind_of k) x sp r e ∙ go k
     go Kind-v.Int = refl
     go Kind-v.Float = refl
 
--- no literal stands there
+-- no literal is next
 no_literal_taken : (ts : Stream) → take_token any_literal ts ≡ None → take_token (literal_of (Int ∷ [])) ts ≡ None
 unfolding take_token
 no_literal_taken end e = refl

@@ -13,7 +13,7 @@ use Rattle.syn_recognize.proofs.Restricted.{no_word}
 use Rattle.syn_recognize.proofs.ExpressionLooks.{behind_six}
 use Rattle.syn_recognize.proofs.PathLooks.{no_name, others, passed, self_is_word, told_of_name, told_of_word, word_tells}
 
--- WHAT THE GRAMMAR TELLS OF A WORD by what stands behind it
+-- WHAT THE GRAMMAR STATES OF A WORD by the tokens after it
 abbrev tells : Text → Fact → Look → Type 0
 tells w n c = (f : Lookahead) → has_fact n (facts_for (asked (leaf_terminal (ident w))) f) ≡ answers c f
 
@@ -65,7 +65,7 @@ const_item_seen = unmarked_seen w_const Not_item at_const_expression (λ f. told
 pub unsafe_item_seen : (ts : Stream) → sees at_unsafe_item ts ≡ and (sees (at_word w_unsafe) ts) (no (sees (at_group Brace) (past ts)))
 unsafe_item_seen = unmarked_seen w_unsafe Not_item (at_group Brace) (λ f. told_first Not_item (at_group Brace) [] f refl refl)
 
--- `async` without an item behind it, behind `const`
+-- `async` without an item after it, after `const`
 pub const_expression_seen : (ts : Stream) → sees at_const_expression ts ≡ or (sees (at_group Brace) ts) (or (sees (at_word w_static) ts) (or (sees (at_word w_move) ts) (or (sees (at_mark bar) ts) (and (sees (at_word w_async) ts) (no (sees at_async_item ts))))))
 unfolding sees
 const_expression_seen ts = ap (λ b. or (sees (at_group Brace) ts) (or (sees (at_word w_static) ts) (or (sees (at_word w_move) ts) (or (sees (at_mark bar) ts) b)))) (without (sees (at_word w_async) ts) (sees (ahead Begins_item) ts))

@@ -1,5 +1,5 @@
 -- Written by tools/recognizers.py; edits are lost.
--- What one look at the next token tree tells marks by: each has a first character.
+-- How the next token tree alone distinguishes marks: each has a first character.
 use Rattle.std.proofs.Common.{◌≡◌, false, refl}
 use Rattle.syn_recognize.specs.May.{is_empty_text}
 use Rattle.syn_recognize.specs.Names.{mark_text}

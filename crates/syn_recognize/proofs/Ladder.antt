@@ -53,7 +53,7 @@ first_rung : (u : Rule) (b : ℕ) → Rung u b u 0
 unfolding Rung
 first_rung u b w ts = sym (next_none (copy_form (rule u) w ts))
 
--- behind what one rule reads, one level more
+-- after what one rule reads, one level more
 onto : (u : Rule) (b : ℕ) (k : Rule) (j m : ℕ) → m ≡ j + b → Rung u b k j → (w : Written) (ts : Stream) → next (copy_form (rule k) w ts) (copy_form (level m)) ≡ next (copy_form (rule u) w ts) (climb (suc j) b)
 unfolding Rung
 onto u b k j m e h w ts =
@@ -280,7 +280,7 @@ level_read refusal n k g l m w v ts r x i h e p s =
     goes_read refusal l m i (climb (k - n) n w ts) g w v ts r x
     (subst (λ j. GoesOn l (climb (k - n) n w ts) j g w ts) (sym p) (goes_first l (Step-m.Levels (n + 1) k) (climb (k - n) n w ts) g w ts (begun n k g w ts h e))) s
 
--- levels that were put off are gone on with: by the first one that may read something
+-- deferred levels continue with the first one that may read something
 pub goes_up : (l m : List Step) (n k j : ℕ) (f : First) (g : Grammar) (w : Written) (ts : Stream) → Passes n k j f → Begins f ts → j < k → parse_form g ≡ parse_form (level_form j) → m ≡ l ++ Step-m.Levels (j + 1) k ∷ [] →
     GoesOn (l ++ Step-m.Levels n k ∷ []) (Reached w ts) m g w ts
 unfolding Passes

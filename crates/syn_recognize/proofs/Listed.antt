@@ -1,4 +1,4 @@
--- Statements of which the first begins with a word, and with no attribute: where no item stands next, it is one that isn't kept.
+-- Statements, where the first begins with a word and has no attribute: if no item is next, it is one that isn't stored verbatim.
 use Rattle.std.proofs.Common.{◌≡◌, Bool, true, false, [], ◌∷◌, Some, None, refl, sym, ap, subst, ◌∙◌, true≢false}
 use Rattle.syn_grammar.specs.Tokens.{Stream, pick}
 use Rattle.syn_grammar.specs.Rules.{Rule, attributes, kept_in_block, statement_rest, statements}
@@ -23,7 +23,7 @@ use Rattle.syn_recognize.proofs.WrittenAside.{captured_is}
 use Rattle.syn_recognize.proofs.Ladder.{silent}
 use Rattle.syn_recognize.proofs.Opened.{pruned_is}
 
--- the two ways of the list: an item that is kept, or another statement
+-- the two ways of the list: an item that is stored verbatim, or another statement
 abbrev list : Grammar
 list = planned_form Planned-m.Statements
 
@@ -67,7 +67,7 @@ module _ (f : First) (ts : Stream) (b : Begins f ts) (q : loud (table attributes
   other : (w : Written) → copy_form list w ts ≡ copy_form (rule statement_rest) w ts
   other w = none_first (first list) (second list) w ts (not_kept w) ∙ behind (first (second (second list))) (rule statement_rest) w
 
--- the form of a list, where no attribute stands next
+-- the form of a list, where no attribute is next
 abbrev pub listed : Grammar
 listed = when at_item then list else rule statement_rest
 

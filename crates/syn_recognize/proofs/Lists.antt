@@ -36,7 +36,7 @@ comma_is a ts p e = let (xs, i, q, h) = mark_told comma ts p e in go xs p.0 q i
     go (x ∷ []) s q i = ap (way a) i ∙ way_mark a (x ∷ []) ∙ ap (λ n. punct n false x.1 end) (cc q) ∙ sym (ap (λ t. punct 44 false (span_of t) end) i)
     go (x ∷ y ∷ l) s q i = absurd (cc q)
 
--- a member and its comma, behind what was written, and what follows
+-- a member and its comma, after what was written, and what follows
 commas : (w : Written) (s : Stream) (sp : Span) (i : Stream) → adds w (with_comma s sp i) ≡ adds (adds (adds w s) (punct 44 false sp end)) i
 commas w s sp i = sym (ap (λ v. adds v i) (adds_more w s (punct 44 false sp end)) ∙ adds_more w (s ⧺ punct 44 false sp end) i ∙ ap (adds w) (append_append s (punct 44 false sp end) i))
 

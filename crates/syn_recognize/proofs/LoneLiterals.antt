@@ -26,9 +26,9 @@ use Rattle.syn_recognize.specs.LoneLiterals.{is_over, is_lone_literal, ShowsLite
 use Rattle.syn_recognize.specs.Printed.{ShowsAndPrints}
 use Rattle.syn_recognize.specs.declared.reading.ShownAndPrinted.{ShownAndPrinted}
 
--- ---- what is read of a literal, by what stands behind it
+-- ---- what is read of a literal, by the tokens after it
 module _ (k : LitKind) (x : Text) (sp : Span) (behind : Lookahead) where
-  -- a tree, and whether what is left begins at the literal (true) or behind it
+  -- a tree, and whether the rest begins at the literal (true) or after it
   abbrev Walk : Type 0
   Walk = Option (Syntax × Bool)
 
@@ -170,7 +170,7 @@ constant_before Char x sp behind = refl
 constant_before Int x sp behind = refl
 constant_before Float x sp behind = refl
 
--- ---- what stands behind
+-- ---- the tokens after it
 at_end : (r : Stream) → sees ended r ≡ true → lookahead r ≡ nothing_behind
 unfolding is_end nothing_behind
 at_end r e = go r (sym (sees_ended r) ∙ e)
@@ -181,7 +181,7 @@ at_end r e = go r (sym (sees_ended r) ∙ e)
     go (punct c j sp m) h = absurd (true≢false (sym h))
     go (group d o c i m) h = absurd (true≢false (sym h))
 
--- a comma begins no longer mark, and asks nothing
+-- a comma begins no longer mark, and depends on nothing after it
 comma_alone : (j : Bool) (f : Terminal) (l : List Fact) → punctuation_lookahead 44 j (lookahead_with f l) ≡ comma_behind
 unfolding comma_behind
 comma_alone false f l = refl
@@ -279,7 +279,7 @@ lone_read n (leaf (literal k x) sp m) r i j h (s, e, f, g) =
     let over = and_right (sees at_any_literal (leaf (literal k x) sp m)) _ h in
     (lone k x sp, is_read n k x sp m over ∙ ap (λ z. Some (lone k x sp, z)) (same_rest (Token (literal k x) sp) s m r both), f ∙ ap show tree, g ∙ ap show tree)
 
--- where a literal stands, one is taken
+-- where a literal is next, one is taken
 no_literal_here : (ts : Stream) → take_token any_literal ts ≡ None → sees at_any_literal ts ≡ false
 unfolding take_token
 no_literal_here end e = no_literal_seen end (λ k h. refl)
@@ -299,7 +299,7 @@ lone_moved (suc (suc zero)) ts r h = h
 lone_moved (suc (suc (suc zero))) ts r h = omega (arith, h)
 lone_moved (suc (suc (suc (suc n)))) ts r h = omega (arith, h)
 
--- so what is promised of the literal is promised of the tree
+-- so the literal's promise is the tree's
 pub lone_promised : (n : ℕ) (ts : Stream) (result : Result ShownAndPrinted Refusal) (r : Stream) → is_lone_literal n ts ≡ true → ShowsLiteral IsSyntax ts result r → ShowsAndPrints IsSyntax (kind_rule n) ts result r
 lone_promised n ts (Ok tokens) r h a = lone_read n ts r tokens.shown tokens.printed h a
 lone_promised n ts (Err e) r h a = λ f. lone_refused n ts h (a f)

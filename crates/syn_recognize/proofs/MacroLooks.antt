@@ -1,4 +1,4 @@
--- What the grammar tells of paths and of the `:` before one, by peeks.
+-- What the grammar states of paths and of the `:` before one, by peeks.
 use Rattle.std.proofs.Common.{◌≡◌, ℕ, Bool, true, false, List, [], ◌∷◌, ◌++◌, nat_eq, Some, None, refl, sym, ap, ◌∙◌, subst, true≢false}
 use Rattle.std.proofs.lemmas.Bool.{eqb-true}
 use Rattle.syn_grammar.specs.Words.{Text, keywords, contextual, colon, exclamation, less, pound, w_async, w_auto, w_const, w_crate, w_default, w_mut, w_self, w_Self_type, w_static, w_super, w_union, w_unsafe}
@@ -16,11 +16,11 @@ or_none : (b : Bool) → or b false ≡ b
 or_none true = refl
 or_none false = refl
 
--- WHAT TELLS NOTHING OF THIS
+-- WHAT DOESN'T STATE THIS FACT
 abbrev silent : Fact → Lookahead → Asked → Type 0
 silent n f l = has_fact n (facts_for l f) ≡ false
 
--- one of two, of which the first asks nothing of this
+-- one of two conditions, of which the first doesn't test this fact
 either_way : (n : Fact) (f : Lookahead) (b : Bool) (u v : Asked) → (b ≡ true → asks n u ≡ false) → silent n f v → silent n f (pick b u v)
 either_way n f true u v h k = not_told n u f (h refl)
 either_way n f false u v h k = k
@@ -123,7 +123,7 @@ mark_silent c j sp m = go (char_terminal c j (lookahead m).terminal)
     go (Literal k) = refl
     go (Delimited d v) = refl
 
--- `::` BEHIND A WORD OF A PATH
+-- `::` AFTER A WORD OF A PATH
 by_word : (b : Bool) (a c : Bool) → (b ≡ true → a ≡ c) → (b ≡ false → a ≡ false) → a ≡ and b c
 by_word true a c h k = h refl
 by_word false a c h k = k refl
@@ -154,7 +154,7 @@ before_colons_seen ts = by_word (sees at_path_word ts) (sees (ahead Before_colon
     others (punct c j sp m) e = mark_silent c j sp m
     others (group d o c i m) e = silent_group Before_colons refl d o c i m
 
--- THE PATH OF A MACRO, or its rest behind a `:`
+-- THE PATH OF A MACRO, or its rest after a `:`
 mark_of_none : (c : ℕ) (f : Lookahead) → nat_eq c 58 ≡ false → silent Before_macro f (asked_by_mark (c ∷ []))
 mark_of_none c f e =
     either_way Before_macro f (same_text (c ∷ []) exclamation) _ _ (λ h. refl)
@@ -180,7 +180,7 @@ no_colon_tells c j sp m e = go (char_terminal c j (lookahead m).terminal)
 colon_told : (f : Lookahead) → has_fact Before_macro (facts_for (asked (Punctuation (58 ∷ []))) f) ≡ answers (at_path_word and_also ahead Before_macro) f
 colon_told f = passed Before_macro (asked (Punctuation (58 ∷ []))) f refl ∙ told_first Before_macro (at_path_word and_also ahead Before_macro) (others (others (asked (Punctuation (58 ∷ []))))) f refl refl
 
--- a `:` that is joined to what stands behind it
+-- a `:` that is joined to the token after it
 abbrev colon_of : Lookahead → Lookahead
 colon_of f = punctuation_lookahead 58 true f
 
@@ -226,7 +226,7 @@ unfolding sees lookahead_at
 at_double false sp m h = absurd (true≢false h)
 at_double true sp m h = double (lookahead m).terminal (lookahead m).facts h
 
--- nothing is told where no word of a path stands
+-- the fact doesn't hold where no word of a path is next
 if_word : (p c a : Bool) → (p ≡ false → a ≡ false) → a ≡ and (or p c) a
 if_word true c a h = refl
 if_word false true a h = refl
@@ -239,7 +239,7 @@ no_one false a h = h
 abbrev AsMacro : Stream → Type 0
 AsMacro ts = sees (ahead Before_macro) ts ≡ sees at_macro ts
 
--- no single `:` stands there
+-- no single `:` is next
 pub no_single_colon : (ts : Stream) → sees at_lone_colon ts ≡ false → AsMacro ts
 unfolding sees
 no_single_colon end e = no_one _ _ (silent_end Before_macro)
@@ -252,7 +252,7 @@ no_single_colon (punct c j sp m) e = go (nat_eq c 58) refl e
     go false p = λ h. no_one _ _ (no_colon_tells c j sp m p)
 no_single_colon (group d o c i m) e = no_one _ _ (silent_group Before_macro refl d o c i m)
 
--- one does
+-- one is
 left_of : Out → Stream
 left_of (Some p) = p.1
 left_of None = end
@@ -276,7 +276,7 @@ colon_read ts h e = true≢false (sym (left_true (sees at_colon ts) _ h) ∙ see
     left_true true b h = refl
     left_true false b h = absurd (true≢false (sym h))
 
--- behind it
+-- after it
 pub from_word : (ts : Stream) → sees at_path_word ts ≡ true → macro_from ts ≡ sees at_macro ts
 unfolding sees
 from_word ts h = ap (λ b. and b (sees (ahead Before_macro) ts)) h ∙ sym (ap (λ b. and (or b (sees at_colons ts)) (sees (ahead Before_macro) ts)) h)

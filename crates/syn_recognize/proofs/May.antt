@@ -1,4 +1,4 @@
--- What one look at the next token tree tells of conditions.
+-- What the next token tree alone decides of lookaheads.
 use Rattle.std.proofs.Common.{◌≡◌, ℕ, Bool, true, false, List, [], ◌∷◌, ◌++◌, nat_eq, refl, sym, ap, ap₂, ◌∙◌, subst, true≢false}
 use Rattle.std.proofs.lemmas.Bool.{eqb-true}
 use Rattle.syn_grammar.specs.Words.{Text, keywords, contextual, long_marks, lifetime_mark}
@@ -20,7 +20,7 @@ use Rattle.syn_parse.proofs.Words.{take_name}
 use Rattle.syn_grammar.specs.Table.{at_any_literal}
 use Rattle.syn_recognize.proofs.Known.{known_mark}
 
--- THE TERMINALS OF WHAT STANDS NEXT
+-- THE TERMINALS OF THE NEXT TOKEN
 
 -- none of those that it may have passes the test
 abbrev None : First → (Terminal → Bool) → Type 0
@@ -83,7 +83,7 @@ at_front (F.Mark c) (punct d j sp m) p b h = subst (λ e. p (char_terminal e j (
 at_front (F.Group d) (group e o c i m) p b h = subst (λ g. p (Delimited g (grammar.holds_nothing g (lookahead i).terminal)) ≡ false) (sym b) (h _)
 at_front f ts p b h = elim b [ ]
 
--- ONE CONDITION
+-- ONE LOOKAHEAD
 
 no_ended : (f : First) → may ended f ≡ false → None f grammar.is_ended
 no_ended F.Ended m = absurd (true≢false m)
@@ -181,7 +181,7 @@ pub or_right : (a b : Bool) → or a b ≡ false → b ≡ false
 or_right true b e = absurd (true≢false e)
 or_right false b e = e
 
--- ANY CONDITION that one look rules out doesn't hold
+-- ANY LOOKAHEAD that the next token excludes doesn't hold
 pub never : (c : Look) (f : First) (ts : Stream) → Begins f ts → may c f ≡ false → sees c ts ≡ false
 unfolding sees lookahead_at
 never ended f ts b m = at_front f ts grammar.is_ended b (no_ended f m)
@@ -196,7 +196,7 @@ never (c or_else d) f ts b m = ap₂ or (never c f ts b (or_left (may c f) (may 
 never (c and_also d) f ts b m = ap (λ z. and z (sees d ts)) (never c f ts b m)
 never (c but_not d) f ts b m = ap (λ z. and z (no (sees d ts))) (never c f ts b m)
 
--- CONDITIONS AS DATA
+-- LOOKAHEADS AS DATA
 
 covers : (l : look.Look) (f : First) → may_hold l f ≡ false → may (look_of l) f ≡ false
 covers Look-m.Ended f m = m
@@ -332,7 +332,7 @@ group_sure e F.Keyword m = not_so m
 group_sure e F.Literal m = not_so m
 group_sure e (F.Mark c) m = not_so m
 
--- ANY CONDITION of which one look says that it holds
+-- ANY LOOKAHEAD that the next token confirms holds
 pub surely : (c : Look) (f : First) (ts : Stream) → Begins f ts → sure c f ≡ true → sees c ts ≡ true
 unfolding sees lookahead_at
 surely ended f ts b m = front_sure f ts grammar.is_ended b (ended_sure f m)

@@ -94,11 +94,11 @@ no_number (d ∷ l) c s h = not_true (is_index (d ∷ l)) (λ i. go i h)
 
 -- TOKENS: a literal is the number of a field where it is an integer with such a text
 
--- what is left of the answer where the literal is no such integer
+-- the result where the literal is no such integer
 abbrev if_index : LitKind → Text → Out → Out
 if_index k x o = only (and (is_index x) (or (nat_eq (kind_number k) 5) false)) o
 
--- the answer of a literal, by what it is
+-- the result of a literal, by its kind
 abbrev again : Out → Out
 again (Some (Token (literal k x) sp, r)) = if_index k x (Some (Token (literal k x) sp, r))
 again _ = None
@@ -139,7 +139,7 @@ no_integer_taken ts k x sp r e n = literal_taken ts (kind_of k) x sp r e ∙ go 
     go Kind-v.Int n = absurd (n refl)
     go Kind-v.Float n = never (is_index x) _
 
--- no literal stands there
+-- no literal is next
 pub no_literal_taken : (ts : Stream) → take_token any_literal ts ≡ None → take_token index ts ≡ None
 unfolding take_token
 no_literal_taken end e = refl

@@ -1,4 +1,4 @@
--- What a rule reads where it is known what stands next.
+-- What a rule reads where the next token is known.
 use Rattle.std.proofs.Common.{◌≡◌, ℕ, zero, suc, Bool, true, false, List, [], ◌∷◌, ◌++◌, ◌+◌, ◌-◌, arith, refl, sym, ap, ap₂, subst, ◌∙◌}
 use Rattle.syn_grammar.specs.Tokens.{Stream, Look, Paren, Brace, Bracket, pick}
 use Rattle.syn_grammar.specs.Rules.{type, type_arguments, type_path, type_words, more_type_words, path_as_type, Rule, attributes, unary, unary_head, primary, primary_head, literal_fields, path_as_expression, expression_path, expression_words, expressions, array_content, macro_invocation, postfixes}
@@ -63,7 +63,7 @@ pub goes_opened : (l : List Step) (f : First) (g : Grammar) (k : Rule) (w : Writ
 unfolding Opens
 goes_opened l f g k w ts h b = goes_here l (copy_form (rule k) w ts) g w ts (h w ts b)
 
--- one that is a unary level and so many levels behind it: these are put off
+-- one that is a unary level and so many levels after it, which are deferred
 pub started : (l m : List Step) (f : First) (i k : Rule) (b c j : ℕ) (u : Grammar) (w : Written) (ts : Stream) → Rung i b k j → c ≡ b + j → Opens f u i → Begins f ts → m ≡ l ++ Step-m.Levels b c ∷ [] → GoesOn l (copy_form (rule k) w ts) m u w ts
 unfolding Opens
 started l m f i k b c j u w ts h q o a p =
@@ -89,7 +89,7 @@ pub opens_silent : (f : First) (k : Rule) → loud (table k) f ≡ false → Ope
 unfolding Opens
 opens_silent f k e = λ w ts b. rule_is k (table k) w ts refl ∙ silent (table k) f w ts b e ∙ sym (empty_is w ts)
 
--- a path, and the fields of a struct literal behind it
+-- a path, and the fields of a struct literal after it
 abbrev pub path_with_fields : Grammar
 path_with_fields = rule expression_words & (when at_brace then shaped fields (inside Brace (rule literal_fields)) else empty)
 

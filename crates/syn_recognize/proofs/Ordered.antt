@@ -1,4 +1,4 @@
--- Which members of a list are printed first is told by what stands next.
+-- The next token decides which members of a list are printed first.
 use Rattle.std.proofs.Common.{◌≡◌, Bool, true, false, Some, None, refl, sym, ap, ap₂, ◌∙◌, subst, true≢false}
 use Rattle.syn_grammar.specs.Words.{pound}
 use Rattle.syn_grammar.specs.Tokens.{Stream, Bracket, at_lifetime}
@@ -25,7 +25,7 @@ arguments_told ts = record { is = go (take_lifetime ts) (sees at_lifetime ts) (s
     go None true e = absurd (true≢false e)
     go None false e = refl
 
--- PARAMETERS, behind their attributes
+-- PARAMETERS, after their attributes
 
 abbrev lifetime_form : Grammar
 lifetime_form = second (table lifetime_parameter)
@@ -56,21 +56,21 @@ leads_wrapped : (f : Syntax → Syntax) (o : Out) (b : Bool) → LeadsTo o b →
 leads_wrapped f None b h = tt
 leads_wrapped f (Some p) b h = h
 
--- none stand next
+-- none is next
 pub no_attribute : (ts : Stream) (b : Bool) → sees at_pound ts ≡ false → sees at_lifetime ts ≡ b → LeadsTo (parse_rule attributes ts) b
 no_attribute ts b e h = subst (λ o. LeadsTo o b) (sym is) h
   where
     is : parse_rule attributes ts ≡ Some (Node (Right (Unshown Nothing)), ts)
     is = attributes_is ts ∙ ap (λ a. wrap Node (branch a (parse_form (first (table attributes)) ts) (Some (Unshown Nothing, ts)))) e
 
--- one stands next: `#`, and what is left behind it
+-- one is next: `#`, and the tokens after it
 begun : (ts m : Stream) (p : Syntax) → sees at_pound ts ≡ true → take_mark pound ts ≡ Some (p, m) →
     parse_rule attributes ts ≡ wrap Node (wrap Left (and_then (wrap (Both p) (within Bracket (take_group Bracket m) (parse_rule meta))) (parse_rule attributes)))
 begun ts m p e q =
     attributes_is ts ∙ ap (λ a. wrap Node (branch a (parse_form (first (table attributes)) ts) (Some (Unshown Nothing, ts)))) e
     ∙ ap (λ o. wrap Node (wrap Left (and_then (and_then o (λ r. within Bracket (take_group Bracket r) (parse_rule meta))) (parse_rule attributes)))) q
 
--- and others behind it
+-- and others after it
 pub attribute_behind : (ts m : Stream) (p : Syntax) (g : Opened) (b : Bool) → sees at_pound ts ≡ true → take_mark pound ts ≡ Some (p, m) → take_group Bracket m ≡ Some g → LeadsTo (parse_rule attributes g.rest) b → LeadsTo (parse_rule attributes ts) b
 attribute_behind ts m p g b e q i h =
     subst (λ o. LeadsTo o b) (sym (begun ts m p e q ∙ ap (λ o. wrap Node (wrap Left (and_then (wrap (Both p) (within Bracket o (parse_rule meta))) (parse_rule attributes)))) i)) (go (parse_rule meta g.content))
@@ -85,7 +85,7 @@ attribute_behind ts m p g b e q i h =
     go None = tt
     go (Some x) = ended x.0 (is_end x.1)
 
--- no group stands behind `#`
+-- no group follows `#`
 pub no_brackets : (ts m : Stream) (p : Syntax) (b : Bool) → sees at_pound ts ≡ true → take_mark pound ts ≡ Some (p, m) → take_group Bracket m ≡ None → LeadsTo (parse_rule attributes ts) b
 no_brackets ts m p b e q i =
     subst (λ o. LeadsTo o b) (sym (begun ts m p e q ∙ ap (λ o. wrap Node (wrap Left (and_then (wrap (Both p) (within Bracket o (parse_rule meta))) (parse_rule attributes)))) i)) tt

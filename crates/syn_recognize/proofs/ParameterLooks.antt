@@ -10,7 +10,7 @@ use Rattle.syn_recognize.specs.ItemLooks.{at_first_parameter, at_type_rest}
 use Rattle.syn_recognize.proofs.Facts.{and_same, told_first}
 use Rattle.syn_recognize.proofs.PathLooks.{no_name, others, passed, told_of_name}
 
--- WHAT A NAME TELLS of the type that goes on from it
+-- WHAT A NAME STATES of the type that continues from it
 rest_told : (f : Lookahead) → has_fact Before_type_rest (facts_for asked_by_name f) ≡ answers at_type_rest f
 rest_told f = passed Before_type_rest asked_by_name f refl ∙ passed Before_type_rest (others asked_by_name) f refl ∙ passed Before_type_rest (others (others asked_by_name)) f refl
     ∙ told_first Before_type_rest at_type_rest asked_by_path_word f refl refl
@@ -27,7 +27,7 @@ pub parameter_seen : (ts : Stream) → sees at_parameter ts ≡ or (sees (at_mar
 unfolding sees
 parameter_seen ts = ap (λ b. or (sees (at_mark pound) ts) (or (sees at_lifetime ts) (or (sees (at_word w_const) ts) b))) (and_same (sees at_name ts) _ _ (λ h. ap no (rest_tells ts h)))
 
--- WHAT `<` TELLS of what stands behind it; of `<=` and `<<` nothing is told, and no parameter begins there
+-- WHAT `<` STATES of the tokens after it; `<=` and `<<` state nothing, and no parameter begins there
 lone : (f : Lookahead) → has_fact Before_parameter (facts_for ((at_first_parameter, Before_parameter) ∷ []) f) ≡ answers at_first_parameter f
 lone f = told_first Before_parameter at_first_parameter [] f refl refl
 

@@ -17,9 +17,9 @@ use Rattle.syn_parse.proofs.Words.{fits_name, fits_name_or, fits_word}
 use Rattle.syn_recognize.specs.ItemLooks.{at_named_macro}
 use Rattle.syn_recognize.proofs.Facts.{and_same, told_first, word_face}
 
--- WHAT A WORD OF A PATH TELLS
+-- WHAT A WORD OF A PATH STATES
 
--- a fact that is told of something else is passed over
+-- a fact that is stated of another token is skipped
 abbrev first_fact : Asked → Fact
 first_fact [] = Before_end
 first_fact (p ∷ l) = p.1
@@ -42,7 +42,7 @@ face x = leaf_terminal (ident x)
 abbrev pub is_path_word : Terminal → Bool
 is_path_word t = or (is_name t) (or (is_word w_self t) (or (is_word w_Self_type t) (or (is_word w_super t) (is_word w_crate t))))
 
--- a fact that no contextual keyword tells by itself
+-- a fact that no contextual keyword states by itself
 module _ (n : Fact) (item : same_fact n Begins_item ≡ false) (brace : same_fact n Before_brace ≡ false) (f : Lookahead) where
   abbrev told_as_name : Text → Type 0
   told_as_name x = has_fact n (facts_for (asked (face x)) f) ≡ has_fact n (facts_for asked_by_name f)
@@ -64,7 +64,7 @@ module _ (n : Fact) (item : same_fact n Begins_item ≡ false) (brace : same_fac
       go true i = named (same_text x w_union) (same_text x w_auto) (same_text x w_default) (same_text x w_safe) refl refl refl refl (sym (ap (λ b. is_name (pick b (Word x) Name)) i) ∙ e)
       go false i = ap (λ b. has_fact n (facts_for (asked (pick b (Word x) Name)) f)) i
 
--- a fact that each word of a path tells
+-- a fact that each word of a path states
 module _ (n : Fact) (item : same_fact n Begins_item ≡ false) (brace : same_fact n Before_brace ≡ false)
     (last : same_fact n Before_end ≡ false) (equal : same_fact n Before_equals ≡ false) (paren : same_fact n Before_paren ≡ false) (lt : same_fact n Before_less ≡ false) (rest : same_fact n Before_type_rest ≡ false)
     (f : Lookahead) where
@@ -125,7 +125,7 @@ pub no_path_word : (c : ℕ) (j : Bool) (sp : Span) (m : Stream) → sees at_pat
 unfolding sees
 no_path_word c j sp m = ap₂ or (no_name c j sp m) (ap₂ or (no_word w_self c j sp m) (ap₂ or (no_word w_Self_type c j sp m) (ap₂ or (no_word w_super c j sp m) (no_word w_crate c j sp m))))
 
--- behind a word of a path
+-- after a word of a path
 abbrev pub WordTells : Stream → Stream → Type 0
 WordTells ts m = (sees (ahead Before_macro) ts ≡ or (sees at_bang m) (and (sees at_colons m) (sees (ahead Before_macro) m)))
     × (sees (ahead Bang_brace) ts ≡ and (or (sees at_colons m) (sees at_bang m)) (sees (ahead Bang_brace) m))
@@ -153,9 +153,9 @@ paren_tells (leaf (literal k x) sp m) e = absurd (true≢false (sym e))
 paren_tells (punct c j sp m) e = absurd (true≢false (sym e ∙ no_name c j sp m))
 paren_tells (group d o c i m) e = absurd (true≢false (sym e))
 
--- WHAT `::` TELLS
+-- WHAT `::` STATES
 
--- a fact that `:` tells by itself of what stands behind it, and that a third `:` never tells
+-- a fact that `:` states by itself of the tokens after it, and that a third `:` never states
 module _ (n : Fact) (c : Look) (lone : (f : Lookahead) → has_fact n (facts_for (asked (Punctuation (58 ∷ []))) f) ≡ answers c f)
     (nothing : (m : Text) (l : List Fact) → answers c (lookahead_with (Punctuation (58 ∷ m)) l) ≡ false) where
   abbrev told_of : Lookahead → Type 0
@@ -179,7 +179,7 @@ module _ (n : Fact) (c : Look) (lone : (f : Lookahead) → has_fact n (facts_for
   told_behind false sp sq m = lone (lookahead m)
   told_behind true sp sq m = behind_joint (lookahead m).terminal (lookahead m).facts
 
--- `::` stands there
+-- `::` is next
 abbrev Colons : Stream → Stream → Type 0
 Colons ts m = (sp : Span) × (j : Bool) × (sq : Span) × (ts ≡ punct 58 true sp (punct 58 j sq m))
 
@@ -207,7 +207,7 @@ colons_at (punct c true sp m) h = go (nat_eq c 58) refl (sym (sees_mark colons r
     go true e t = subst (λ z. taken (take_mark colons (punct z true sp m)) ≡ true → Colons (punct z true sp m) (past (past (punct z true sp m)))) (sym (eqb-true c 58 e)) (second_colon sp m) t
     go false e t = absurd (true≢false (sym t ∙ rw e refl))
 
--- what is left behind it
+-- the tokens after it
 abbrev rest : Out → Stream
 rest (Some p) = p.1
 rest None = end
@@ -270,7 +270,7 @@ pattern_path_seen ts =
     (and_same (sees (at_word w_self) ts) _ _ (λ h. (word_tells ts (self_is_word ts h)).2))
     (and_same (sees at_name ts) _ _ (λ h. ap₂ or (word_tells ts (name_is_word ts h)).2 (paren_tells ts h)))
 
--- WHAT `!` TELLS
+-- WHAT `!` STATES
 
 bang_mark : (ts : Stream) → sees at_bang ts ≡ true → taken (take_mark exclamation ts) ≡ true
 unfolding sees
@@ -285,7 +285,7 @@ past_bang : (j : Bool) (sp : Span) (m : Stream) → past (punct 33 j sp m) ≡ m
 past_bang false sp m = refl
 past_bang true sp m = refl
 
--- a fact that `!` tells of what stands behind it
+-- a fact that `!` states of the tokens after it
 module _ (n : Fact) (c : Look) (lone : (f : Lookahead) → has_fact n (facts_for (asked (Punctuation (33 ∷ []))) f) ≡ answers c f) where
   abbrev bang_of : Lookahead → Type 0
   bang_of f = answers at_bang (punctuation_lookahead 33 true f) ≡ true → has_fact n (punctuation_lookahead 33 true f).facts ≡ answers c f
@@ -346,7 +346,7 @@ crate_macro_seen ts = and_same (sees at_lone_crate ts) _ _ (λ h. of_lone (sees 
 
 -- ALONG A PATH, UP TO ITS `!`
 
--- a macro whose path goes on here; one with braces; and one with a name
+-- a macro whose path continues here; one with braces; and one with a name
 abbrev pub macro_from : Stream → Bool
 macro_from ts = and (sees at_path_word ts) (sees (ahead Before_macro) ts)
 
@@ -359,7 +359,7 @@ named_macro_from ts = and (sees at_path_word ts) (sees (ahead Bang_name) ts)
 abbrev Goes : Stream → Stream → Type 0
 Goes ts m = (sees (ahead Before_macro) ts ≡ macro_from m) × (sees (ahead Bang_brace) ts ≡ brace_macro_from m) × (sees (ahead Bang_name) ts ≡ named_macro_from m)
 
--- behind `::`
+-- after `::`
 behind_colons : (ts : Stream) (s : Syntax) (m : Stream) → take_mark colons ts ≡ Some (s, m) → Goes ts m
 unfolding sees
 behind_colons ts s m e = go (colons_left ts s m e)
@@ -407,7 +407,7 @@ module _ (k : Kind) (ts : Stream) (s : Syntax) (m : Stream) (word : sees at_path
   name_is : named_macro_from ts ≡ and (or (sees at_colons m) (sees at_bang m)) (sees (ahead Bang_name) m)
   name_is = ap (λ b. and b (sees (ahead Bang_name) ts)) word ∙ tells.3
 
-  -- `!` stands behind it
+  -- `!` follows it
   pub bang_found : sees at_bang m ≡ true → (macro_from ts ≡ true) × (brace_macro_from ts ≡ sees at_brace (past m)) × (named_macro_from ts ≡ sees at_macro_name (past m))
   bang_found h = (
     macro_is ∙ ap (λ b. or b (and (sees at_colons m) (sees (ahead Before_macro) m))) h,
@@ -427,7 +427,7 @@ module _ (k : Kind) (ts : Stream) (s : Syntax) (m : Stream) (word : sees at_path
     name_is ∙ ap₂ (λ a b. and (or b a) (sees (ahead Bang_name) m)) h n,
   )
 
-  -- `::` does, and a path goes on behind it
+  -- `::` does, and a path continues after it
   pub path_goes_on : sees at_bang m ≡ false → sees at_colons m ≡ true → (t : Syntax) (r : Stream) → take_mark colons m ≡ Some (t, r) →
       (macro_from ts ≡ macro_from r) × (brace_macro_from ts ≡ brace_macro_from r) × (named_macro_from ts ≡ named_macro_from r)
   path_goes_on h c t r d = (
@@ -470,7 +470,7 @@ path_begins ts s m e = go (sees at_colons ts) refl e
       ap (λ b. and (or (sees at_path_word ts) b) (sees (ahead Bang_name) ts)) h ∙ or_false (sees at_path_word ts) _ ∙ ap named_macro_from (ap rest e),
     )
 
--- WHAT IS READ WHERE IT STANDS NEXT
+-- WHAT IS READ WHERE IT IS NEXT
 
 pub leading_read : (ts : Stream) → branch (sees at_colons ts) (take_mark colons ts) (Some (Nothing, ts)) ≡ None → ⊥
 leading_read ts e = go (sees at_colons ts) (take_mark colons ts) (sees_mark colons refl ts) e

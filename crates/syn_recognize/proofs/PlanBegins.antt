@@ -37,7 +37,7 @@ use Rattle.syn_recognize.proofs.CourseProofs.{Goes, goes_written, goes_kept}
 use Rattle.syn_recognize.proofs.PlannedCourses.{item_goes, trait_item_goes, impl_item_goes, foreign_item_goes, derive_input_goes, crate_macro_goes, use_item_rest_goes, type_item_rest_goes, impl_definition_rest_goes}
 use Rattle.syn_recognize.proofs.StatementCourses.{table_is, statement_written, statement_kept, statements_written, statements_kept}
 
--- nothing stands behind it
+-- nothing follows it
 nothing_behind : (o : Copy) → next o (copy_form (behind_form Planned-m.Item)) ≡ o
 nothing_behind (Reached v r) = empty_is v r
 nothing_behind Refused = refl

@@ -1,5 +1,5 @@
 -- Written by tools/recognizers.py; edits are lost.
--- The courses of unions go as their plans.
+-- The courses of unions write what their plans write.
 use Rattle.std.proofs.Common.{Bool, true, false, [], ◌∷◌, refl}
 use Rattle.syn_grammar.specs.Tokens.{Stream, end}
 use Rattle.syn_grammar.specs.Rules.{impl_definition, type_item}

@@ -5,7 +5,7 @@ use Rattle.syn_grammar.specs.Grammar.{Syntax, Last, More, show, renew, print, so
 use Rattle.syn_grammar.proofs.Streams.{append_append}
 use Rattle.syn_recognize.specs.PrintedRows.{with_comma, firsts, print_firsts, others_of, print_row}
 
--- of a sorted list: what stands before a member that is put behind all of the first form, and what stands behind it
+-- of a sorted list: what precedes a member that is put after all of the first form, and what follows it
 abbrev front : Syntax → Stream
 front (More true s sp t) = with_comma (show s) sp (front t)
 front (Last true s) = with_comma (show s) call_site end

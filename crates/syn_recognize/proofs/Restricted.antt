@@ -1,4 +1,4 @@
--- The conditions of the grammar on a visibility, by looking into groups: what follows `pub`, and what stands for none.
+-- The conditions of the grammar on a visibility, by looking into groups: what follows `pub`, and what represents none.
 use Rattle.std.proofs.Common.{◌≡◌, ℕ, Bool, true, false, [], ◌∷◌, Option, Some, None, refl, sym, ap, ap₂, ◌∙◌, subst, true≢false}
 use Rattle.syn_grammar.specs.Words.{Text, w_in, w_crate, w_self, w_super}
 use Rattle.syn_grammar.specs.Tokens.{Stream, end, leaf, punct, group, ident, literal, Paren, Brace, Bracket, None as Invisible, or, and, pick, has_fact, asked_by_path_word, Lone_word, Begins_in, Before_end, facts_for, asked, leaf_terminal, lookahead, answers, is_word, is_ended, Terminal, Span, Look, ended, at_word, at_empty_group, ◌or_else◌, ◌and_also◌, ahead}
@@ -18,7 +18,7 @@ lone = (at_word w_crate or_else at_word w_self or_else at_word w_super) and_also
 abbrev one_of_three : Terminal → Bool
 one_of_three f = or (is_word w_crate f) (or (is_word w_self f) (is_word w_super f))
 
--- what the grammar tells of such a word is whether nothing follows
+-- what the grammar states of such a word is whether nothing follows
 noted_end : (x : Text) (m : Stream) → one_of_three (leaf_terminal (ident x)) ≡ true → has_fact Before_end (facts_for (asked (leaf_terminal (ident x))) (lookahead m)) ≡ is_ended (lookahead m).terminal
 noted_end x m e = go (is_word w_crate (leaf_terminal (ident x))) (is_word w_self (leaf_terminal (ident x))) (is_word w_super (leaf_terminal (ident x))) refl refl refl e
   where
@@ -37,7 +37,7 @@ pub no_word : (w : Text) (c : ℕ) (j : Bool) (sp : Span) (m : Stream) → is_wo
 unfolding sees lookahead_at take_token
 no_word w c j sp m = sees_word w (punct c j sp m)
 
--- one of the three words, with nothing behind it
+-- one of the three words, with nothing after it
 lone_seen : (i : Stream) → answers lone (lookahead i) ≡ lone_word i
 unfolding sees lookahead_at
 lone_seen end = refl
@@ -48,7 +48,7 @@ lone_seen (punct c j sp m) =
     ap (λ b. and b (has_fact Before_end (lookahead (punct c j sp m)).facts)) none ∙ ap (λ b. and b (is_ended (lookahead (past (punct c j sp m))).terminal)) (sym none)
 lone_seen (group d o c i m) = refl
 
--- what a group in parentheses tells of its content
+-- what a group in parentheses states of its content
 notes_inside : (a b : Bool) → or (has_fact Lone_word (pick a (Lone_word ∷ pick b (Begins_in ∷ []) []) (pick b (Begins_in ∷ []) []))) (has_fact Begins_in (pick a (Lone_word ∷ pick b (Begins_in ∷ []) []) (pick b (Begins_in ∷ []) []))) ≡ or b a
 notes_inside true true = refl
 notes_inside true false = refl
@@ -74,7 +74,7 @@ empty_group_seen ts = sees_empty_group ts ∙ go (take_group Invisible ts)
     go (Some g) = refl
     go None = refl
 
--- what a group in parentheses tells of its content, each by itself
+-- what a group in parentheses states of its content, each by itself
 notes_in : (a b : Bool) → has_fact Begins_in (pick a (Lone_word ∷ pick b (Begins_in ∷ []) []) (pick b (Begins_in ∷ []) [])) ≡ b
 notes_in true true = refl
 notes_in true false = refl

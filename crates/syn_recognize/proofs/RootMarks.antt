@@ -16,7 +16,7 @@ or_assoc : (a b c : Bool) → or a (or b c) ≡ or (or a b) c
 or_assoc true b c = refl
 or_assoc false b c = refl
 
--- behind what is no place of a tree
+-- after a token before which no tree begins
 roots_append : (b : Bool) (l m : List Entry) (e : Entry) → colon_entry e ≡ false → begins_entry e ≡ false → roots_in b (l ++ e ∷ m) ≡ or (roots_in b l) (roots_in false m)
 roots_append b [] m e f g = none_there b (colon_entry e) (roots_in (begins_entry e) m) f ∙ ap (λ z. roots_in z m) g
 roots_append b (x ∷ l) m e f g = ap (or (and b (colon_entry x))) (roots_append (begins_entry x) l m e f g) ∙ or_assoc (and b (colon_entry x)) (roots_in (begins_entry x) l) (roots_in false m)

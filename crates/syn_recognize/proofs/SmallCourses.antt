@@ -1,4 +1,4 @@
--- The courses of uses and of type aliases go as their plans.
+-- The courses of uses and of type aliases write what their plans write.
 use Rattle.std.proofs.Common.{◌≡◌, Bool, true, false, Option, [], ◌∷◌, Some, None, refl, sym, ap, ap₂, ◌∙◌, subst}
 use Rattle.syn_grammar.specs.Words.{w_where, semicolon, equals}
 use Rattle.syn_grammar.specs.Tokens.{Stream, end, ◌⧺◌, or, no, pick, Look, at_word}
@@ -155,7 +155,7 @@ module _ (V : Syntax → Syntax → Syntax → Syntax → Syntax → Syntax) whe
         subst (λ o. Leads (copied w (by_test o (run_plan (plan.reads (punctuation semicolon) λ z. plan.ends (V c q t x z)) k b m) None)) (copy_course (rest (one_of [])) l (adds w e) m)) (sym h)
         (rest_written k b w (one_of []) plan.fails l e m refl)
 
-    -- behind `=` and a type, where `where` stood before
+    -- after `=` and a type, where `where` came before
     last_written : (c q t : Syntax) (m0 m1 m2 m3 : Stream) (l : Option Bool) → sees at_where m0 ≡ true → parse_form (rule where_clause) m0 ≡ Some (c, m1) → parse_form (punctuation equals) m1 ≡ Some (q, m2) →
         parse_form (rule type) m2 ≡ Some (t, m3) → As last_course (plan.reads (rule where_clause) λ x. tested c q t x) l (by_text c q t) m3
     last_written c q t m0 m1 m2 m3 l s0 ic iq it = go (sees at_where m3) refl
@@ -210,7 +210,7 @@ module _ (V : Syntax → Syntax → Syntax → Syntax → Syntax → Syntax) whe
     pub alone_clause_written : (l : Option Bool) (m : Stream) → As alone_clause_course alone_clause_plan l i m
     alone_clause_written l m = first_written equal_plan one_course more_course (λ c m0 m1 l y ic. one_written c m0 m1 l y ic) (λ m0 l y. more_written m0 l y) l m
 
-  -- where it is guessed that it is kept
+  -- where the guess is that it is stored verbatim
   module _ (k : Rule) (b : Stream) (w : Written) where
     abbrev Aside : Course → Plan → Written → Stream → Type 0
     Aside d p v m = Kept-as k b w d p v m

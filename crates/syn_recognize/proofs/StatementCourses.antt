@@ -1,4 +1,4 @@
--- What is written on the courses of statements is what is written of them.
+-- The courses of statements write what statements write.
 use Rattle.std.proofs.Common.{◌≡◌, Bool, true, false, Option, [], ◌∷◌, Some, None, refl, sym, ap, ap₂, ◌∙◌, subst, true≢false, ◌⊎◌, inl, inr}
 use Rattle.syn_grammar.specs.Tokens.{Stream, end, ◌⧺◌, pick, or, and, Look, Lookahead, lookahead, answers, ended, at_name, at_word, at_mark, at_literal, at_group, at_empty_group, ahead, ◌or_else◌, ◌and_also◌, ◌but_not◌}
 use Rattle.syn_grammar.specs.Rules.{Rule, attributes, statement, statements, statement_rest, kept_in_block, kept_item, kept_item_rest, item_rest, item}
@@ -40,7 +40,7 @@ abbrev inner : Course → Course
 inner (reads g d) = d
 inner d = d
 
--- an item behind its attributes
+-- an item after its attributes
 abbrev item_course : Course
 item_course = inner (planned_course Planned-m.Item)
 
@@ -48,7 +48,7 @@ item_behind_goes : (a : Bool) (ts m : Stream) (x : Syntax) → parse_rule attrib
 unfolding item_plan
 item_behind_goes a ts m x e = (item_goes a ts).1 x m e
 
--- a form with nothing behind it
+-- a form with nothing after it
 alone_is : (g : Grammar) (w : Written) (ts : Stream) → copy_form (g & empty) w ts ≡ copy_form g w ts
 alone_is g w ts = then_is g empty w ts ∙ go (copy_form g w ts)
   where
@@ -57,7 +57,7 @@ alone_is g w ts = then_is g empty w ts ∙ go (copy_form g w ts)
     go Refused = refl
     go Stuck = refl
 
--- nothing is kept as tokens where no item stands next, or where no attributes are read
+-- nothing is stored verbatim where no item is next, or where no attributes are read
 in_block_none : (ts : Stream) → parse_rule attributes ts ≡ None → parse_rule kept_in_block ts ≡ None
 in_block_none ts e = parse_rule_is kept_in_block ts ∙ ap (λ o. wrap Node (caught ts (and_then o (λ n. branch (sees at_item n) (parse_rule kept_item_rest n) None)))) e
 
@@ -94,7 +94,7 @@ listed_text a s l = way_node a _ ∙ way_right a _ ∙ way_shape listed a (Both 
     item_shown true = refl
     item_shown false = refl
 
--- what stands behind the attributes, where it is no item
+-- what follows the attributes, where it is no item
 rest_leads : (g : Grammar) (w : Written) (m : Stream) (l : Option Bool) (A : Copy) → A ≡ copy_form g w m → Leads A (copy_course (rest (g & empty)) l w m)
 rest_leads g w m None A e = leads_same A (copy_form (g & empty) w m) (e ∙ sym (alone_is g w m))
 rest_leads g w m (Some true) A e = tt
@@ -190,7 +190,7 @@ apart_is (at_group x) d f e h i = never_with_is (at_group x) d f e h i
 apart_is at_empty_group d f e h i = never_with_is at_empty_group d f e h i
 apart_is (ahead x) d f e h i = never_with_is (ahead x) d f e h i
 
--- no attributes stand where nothing does, nor before `;`, and no item begins there
+-- no attributes are next at the end or before `;`, and no item begins there
 no_attributes_at : (ts m : Stream) (a : Syntax) → parse_rule attributes ts ≡ Some (a, m) → sees at_item m ≡ true → (sees ended ts ≡ false) × (sees at_semicolon ts ≡ false)
 no_attributes_at ts m a e v = go (sees at_pound ts) refl
   where
@@ -209,7 +209,7 @@ module _ (w : Written) (ts : Stream) where
   abbrev list_out : Out
   list_out = first_of (and_then (wrap (shape an_item) (parse_rule kept_in_block ts)) (parse_rule statements)) (and_then (parse_rule attributes ts) (λ n. branch (sees at_item n) (wrap (shape an_item) (and_then (parse_rule item_rest n) (parse_rule statements))) (parse_rule statement_rest n)))
 
-  -- where an item stands next
+  -- where an item is next
   items_listed : (a : Syntax) (m : Stream) → parse_rule attributes ts ≡ Some (a, m) → sees at_item m ≡ true → copied w list_out ≡ next (copied w (run_plan (item_behind a) kept_item ts m)) (copy_form (rule statements))
   unfolding copy_form item_plan
   items_listed a m e v =
@@ -229,7 +229,7 @@ module _ (w : Written) (ts : Stream) where
       of None = refl
       of (Some p) = each p (parse_rule statements p.1)
 
-  -- where none does
+  -- where none is
   none_listed : (a : Syntax) (m : Stream) → parse_rule attributes ts ≡ Some (a, m) → sees at_item m ≡ false → copied w list_out ≡ copy_form (rule statement_rest) (adds w (way w.printing a)) m
   unfolding copy_form
   none_listed a m e v =

@@ -1,4 +1,4 @@
--- Where a string stands next.
+-- Where a string is next.
 use Rattle.std.proofs.Common.{◌≡◌, Bool, true, false, [], ◌∷◌, Some, None, refl, sym, ap, ◌∙◌}
 use Rattle.syn_grammar.specs.Words.{Text}
 use Rattle.syn_grammar.specs.Tokens.{Span, LitKind, Str, ByteStr, CStr, Byte, Char, Int, Float, ident, literal, Stream, end, leaf, punct, group, at_literal}
@@ -16,7 +16,7 @@ abbrev is_str : LitKind → Bool
 is_str Str = true
 is_str _ = false
 
--- the answer of a literal, by what it is
+-- the result of a literal, by its kind
 abbrev again : Out → Out
 again (Some (Token (literal k x) sp, r)) = only (is_str k) (Some (Token (literal k x) sp, r))
 again _ = None
@@ -57,7 +57,7 @@ pub no_string_taken : (ts : Stream) (k : LiteralKind) (x : Text) (sp : Span) (r 
     → take_token (literal_of (Str ∷ [])) ts ≡ None
 no_string_taken ts k x sp r e i = literal_taken ts (kind_of k) x sp r e ∙ ap (λ b. only b (Some (Token (literal (kind_of k) x) sp, r))) (is_so k ∙ i)
 
--- no literal stands there
+-- no literal is next
 pub no_literal_taken : (ts : Stream) → take_token any_literal ts ≡ None → take_token (literal_of (Str ∷ [])) ts ≡ None
 unfolding take_token
 no_literal_taken end e = refl
@@ -66,7 +66,7 @@ no_literal_taken (leaf (literal j y) sq m) e = absurd (cc (sym e ∙ take_litera
 no_literal_taken (punct c j sq m) e = refl
 no_literal_taken (group d o c i m) e = refl
 
--- WHETHER ONE STANDS NEXT
+-- WHETHER ONE IS NEXT
 pub string_seen : (ts : Stream) (k : LiteralKind) (x : Text) (sp : Span) (r : Stream) → take_token any_literal ts ≡ Some (Token (literal (kind_of k) x) sp, r) → sees (at_literal Str) ts ≡ is_string k
 string_seen ts k x sp r e = sees_literal Str ts ∙ ap taken (literal_taken ts (kind_of k) x sp r e) ∙ of_only (is_str (kind_of k)) ∙ is_so k
   where

@@ -36,7 +36,7 @@ underscore_read sp = parse_rule_is pattern (underscore sp)
 abbrev with_name : Span → Syntax → Syntax
 with_name sp s = Both (lone_underscore sp) (Both (Mark ((58, sp) ∷ [])) s)
 
--- what such a parameter is read as, where what stands behind its name reads some token
+-- what such a parameter is read as, where some token is read after its name
 module _ (g : Grammar) (n : Fact) (ts : Stream) (sp : Span) (h : sees (at_unnamed n) ts ≡ true) (first : leaf_span ts ≡ Some sp) (some : nullable start_of g ≡ false) where
   spanned : (r : Stream) → left r < left ts → first_span ts r ≡ Some sp
   unfolding first_span
@@ -71,7 +71,7 @@ module _ (g : Grammar) (n : Fact) (ts : Stream) (sp : Span) (h : sees (at_unname
           way_both w.printing (lone_underscore sp) (Both (Mark ((58, sp) ∷ [])) s)
           ∙ ap₂ (λ i j. i ⧺ j) (name_shown w.printing) (way_both w.printing (Mark ((58, sp) ∷ [])) s ∙ ap (λ i. i ⧺ way w.printing s) (way_mark w.printing ((58, sp) ∷ [])))
 
--- what stands behind a name reads some token
+-- some token is read after a name
 typed_some : (k : Nameless) → nullable start_of (typed_form k) ≡ false
 typed_some Nameless-m.Argument = refl
 typed_some Nameless-m.Input = refl

@@ -1,4 +1,4 @@
--- What is still to be done.
+-- Deferred steps.
 use Rattle.std.proofs.Common.{◌≡◌, Bool, true, false, List, [], ◌∷◌, ◌++◌, Some, None, Result, Ok, Err, refl, sym, ap, ◌∙◌, subst}
 use Rattle.syn_grammar.specs.Promises.{OrMemory}
 use Rattle.syn_grammar.specs.Tokens.{Stream, pick}
@@ -19,7 +19,7 @@ use Rattle.syn_recognize.proofs.Ways.{way_such, way_left, way_right, way_node}
 use Rattle.syn_recognize.proofs.Copied.{wrapped, behind, rule_is}
 use Rattle.syn_recognize.proofs.Trailing.{trailing_brace_read}
 
--- what is put on top is done first
+-- the step on top is done first
 pub push : (l : List Step) (s : Step) (o : Copy) → todo (l ++ s ∷ []) o ≡ todo l (after s o)
 unfolding todo
 push [] s o = refl
@@ -29,7 +29,7 @@ pub all_done : (o : Copy) → todo [] o ≡ o
 unfolding todo
 all_done o = refl
 
--- a step goes nowhere from nothing, nor behind a wrong guess
+-- a step does nothing after a failure or a wrong guess
 nowhere : (s : Step) → after s Refused ≡ Refused
 nowhere (Step-m.Form f) = refl
 nowhere (Step-m.Close d c rest) = refl
@@ -93,7 +93,7 @@ pub guessing : {E : Type 0} (refusal : E → Type 0) (old : List Step) (out : Co
 guessing refusal old out (Ok x) new w ts h = leads_same (todo old out) (todo new (Reached w ts)) h
 guessing refusal old out (Err e) new w ts h = h
 
--- nothing is left to be done by a step, unless it was refused for memory
+-- a step leaves no step to do, unless it was refused for memory
 pub done_unless : {E : Type 0} (refusal : E → Type 0) (r : Result (Unit {0}) E) (l : List Step) (o : Copy) (w : Written) (ts : Stream) (A B : Type 0) → OrMemory refusal r (λ x. A) → OrMemory refusal r (λ x. B) → (A → B → o ≡ Reached w ts) →
     Steps refusal l o r l w ts
 done_unless refusal (Ok x) l o w ts A B a b k = ap (todo l) (k a b)
@@ -147,14 +147,14 @@ guessing_leads refusal old out (Err e) new w ts h = λ s. refused old out (h s)
 pub goes_here : (l : List Step) (o : Copy) (g : Grammar) (w : Written) (ts : Stream) → o ≡ copy_form g w ts → GoesOn l o l g w ts
 goes_here l o g w ts e = record { same = ap (todo l) e }
 
--- what follows the form is put off
+-- what follows the form is deferred
 pub goes_first : (l : List Step) (s : Step) (o : Copy) (g : Grammar) (w : Written) (ts : Stream) → o ≡ after s (copy_form g w ts) → GoesOn l o (l ++ s ∷ []) g w ts
 goes_first l s o g w ts e = record { same = ap (todo l) e ∙ sym (push l s (copy_form g w ts)) }
 
 pub goes_further : (l m n : List Step) (o : Copy) (g h : Grammar) (w : Written) (ts : Stream) → GoesOn l o m g w ts → GoesOn m (copy_form g w ts) n h w ts → GoesOn l o n h w ts
 goes_further l m n o g h w ts a b = record { same = a.same ∙ b.same }
 
--- nothing was left of a form, and the step that was put off last is gone on with
+-- the form is done, and the last deferred step continues
 pub goes_back : (l : List Step) (s : Step) (o : Copy) (g : Grammar) (w : Written) (ts : Stream) → after s o ≡ copy_form g w ts → GoesOn (l ++ s ∷ []) o l g w ts
 goes_back l s o g w ts e = record { same = push l s o ∙ ap (todo l) e }
 

@@ -1,4 +1,4 @@
--- The conditions of the grammar on what stands next in a type, by peeks.
+-- The lookaheads of the grammar in a type, by peeks.
 use Rattle.std.proofs.Common.{◌≡◌, ℕ, Bool, true, false, List, [], ◌∷◌, ◌++◌, nat_eq, refl, sym, ap, ◌∙◌, subst, true≢false}
 use Rattle.std.proofs.lemmas.Bool.{eqb-true}
 use Rattle.syn_grammar.specs.Words.{Text, keywords, contextual, colons, equals, less, w_union, w_auto, w_default, w_safe, w_trait, w_unsafe, w_impl}
@@ -10,12 +10,12 @@ use Rattle.syn_grammar.proofs.Looks.{sees_and, sees_or, sees_mark, sees_name}
 use Rattle.syn_parse.specs.Peeks.{past}
 use Rattle.syn_recognize.proofs.Facts.{and_same, told_first}
 
--- what is asked behind the first
+-- what is tested after the first
 abbrev others : Asked → Asked
 others [] = []
 others (p ∷ l) = l
 
--- WHAT STANDS BEHIND `::`
+-- WHAT FOLLOWS `::`
 
 abbrev told_less : Stream → Stream → Type 0
 told_less ts n = has_fact Before_less (lookahead ts).facts ≡ answers (at_mark less) (lookahead n)
@@ -43,7 +43,7 @@ behind_colons : (j : Bool) (sp sq : Span) (n : Stream) → told_less (punct 58 t
 behind_colons false sp sq n = behind_lone (lookahead n)
 behind_colons true sp sq n = behind_joint (lookahead n).terminal (lookahead n).facts
 
--- `::` stands next
+-- `::` is next
 abbrev begins : Stream → Bool
 begins ts = sees at_colons ts
 
@@ -85,12 +85,12 @@ arguments_seen ts =
     ∙ ap (or (sees at_less_only ts)) (sees_or at_paren _ ts
     ∙ ap (or (sees at_paren ts)) (sees_and at_colons (ahead Before_less) ts ∙ and_same (begins ts) _ _ (behind ts)))
 
--- WHAT STANDS BEHIND AN IDENTIFIER
+-- WHAT FOLLOWS AN IDENTIFIER
 
 abbrev told_equals : Text → Stream → Type 0
 told_equals x m = has_fact Before_equals (facts_for (asked (leaf_terminal (ident x))) (lookahead m)) ≡ answers (at_mark equals) (lookahead m)
 
--- a fact that is told of something else is passed over
+-- a fact that is stated of another token is skipped
 passed : (n k : Fact) (c : Look) (l : Asked) (f : Lookahead) → same_fact n k ≡ false → has_fact n (facts_for ((c, k) ∷ l) f) ≡ has_fact n (facts_for l f)
 passed n k c l f e = go (answers c f)
   where

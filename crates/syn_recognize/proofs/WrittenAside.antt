@@ -1,4 +1,4 @@
--- What is read without being written where it stands.
+-- Reading without writing in place.
 use Rattle.std.proofs.Common.{◌≡◌, Bool, true, false, Some, None, refl, ap, ◌∙◌}
 use Rattle.syn_grammar.specs.Tokens.{Stream, Look, end}
 use Rattle.syn_grammar.specs.Grammar.{Nothing, Right, Vanishing, Captured, Grammar, vanishing, captured}

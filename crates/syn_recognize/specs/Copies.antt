@@ -1,4 +1,4 @@
--- WHAT IS WRITTEN of what is read, behind what was written before.
+-- WHAT IS WRITTEN of a tree that is read, after what was written before.
 use Rattle.std.specs.Prelude.{◌≡◌, true, Bool, ℕ, false, [], ◌∷◌, Some, None, Result, Ok, Err}
 use Rattle.syn_grammar.specs.Words.{comma}
 use Rattle.syn_grammar.specs.Tokens.{Span, Stream, call_site, pick}
@@ -14,7 +14,7 @@ use Rattle.syn_recognize.specs.Ordered.{member}
 use Rattle.syn_recognize.specs.declared.list.List as list
 use Rattle.syn_recognize.specs.Trailing.{ends_by}
 
--- what is written then, and what is left; or nothing is read; or a guess was wrong, and nothing is known
+-- the output and the tokens left; or nothing is read; or a guess was wrong, and nothing is known
 pub data Copy : Type 0 where
   Reached : Written → Stream → Copy
   Refused : Copy
@@ -26,12 +26,12 @@ Leads a (Reached w ts) = a ≡ Reached w ts
 Leads a Refused = a ≡ Refused
 Leads a Stuck = Unit {0}
 
--- an answer, with its tree behind what was written
+-- the result of a parse, with its tree after what was written
 abbrev pub copied : Written → Out → Copy
 copied w (Some p) = Reached (adds w (way w.printing p.0)) p.1
 copied w None = Refused
 
--- a promise: the tree of an answer was written; or there is none
+-- a promise: the tree of the parse was written; or there is none
 abbrev pub Copies : {E : Type 0} → (E → Type 0) → Written → Out → Result (Unit {0}) E → Written → Stream → Type 0
 Copies refusal old out (Ok x) new ts = copied old out ≡ Reached new ts
 Copies refusal old out (Err e) new ts = refusal e → out ≡ None
@@ -60,7 +60,7 @@ copy_form g w ts = copied w (parse_form g ts)
 
 -- ASIDE
 
--- what was written before, and nothing more
+-- the output before it, and nothing more
 abbrev pub forgetting : Written → Written → Stream → Copy
 forgetting u w ts = Reached u ts
 
@@ -68,7 +68,7 @@ forgetting u w ts = Reached u ts
 abbrev pub returning : Written → Stream → Written → Stream → Copy
 returning u begin w ts = Reached u begin
 
--- the same, and what was read from there on, as it is
+-- the same, with the tokens read from there on copied unchanged
 abbrev pub capturing : Written → Stream → Written → Stream → Copy
 capturing u begin w ts = Reached (adds u (before begin ts)) ts
 
@@ -106,15 +106,15 @@ abbrev pub guessed : Guesses → Stream → Span → (Guesses → Copy) → Copy
 guessed [] i sp q = Stuck
 guessed (p ∷ l) i sp q = pick (same_guess p (i, sp)) (q l) Stuck
 
--- behind the comma of a member that was guessed, what follows
+-- what follows after the comma of a guessed member
 abbrev pub late_comma : list.List → Guesses → Written → Stream → Out → Copy
 late_comma k l u i (Some c) = guessed l i (span_of c.0) (λ m. copy_others k m u c.1)
 late_comma k l u i None = Refused
 
--- what follows a member that was guessed, and was written aside
+-- what follows a guessed member that was written aside
 abbrev pub after_late : list.List → Guesses → Written → Written → Stream → Copy
 after_late k l u w ts = pick (sees at_row_comma ts) (late_comma k l u (stream_of w) (take_mark comma ts)) (guessed l (stream_of w) call_site (λ m. none_left m u ts))
 
--- one of two forms, by whether what was read from there on ends with a group in braces
+-- one of two forms, by whether the tokens read from there on end with a group in braces
 abbrev pub by_braces : Grammar → Grammar → Stream → Written → Stream → Copy
 by_braces g h begin w ts = pick (ends_by false (before begin ts)) (copy_form g w ts) (copy_form h w ts)

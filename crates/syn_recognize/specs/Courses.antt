@@ -1,5 +1,5 @@
--- WHAT IS WRITTEN ON A COURSE. Whether all is kept as tokens is guessed beforehand, and so is how an impl's generics without parameters are
--- printed; behind a wrong guess nothing is known.
+-- WHAT IS WRITTEN ON A COURSE. Whether all is stored verbatim is guessed beforehand, and so is how an impl's generics without parameters
+-- are printed; after a wrong guess nothing is known.
 use Rattle.std.specs.Prelude.{Bool, true, false, Option, Some, None}
 use Rattle.syn_grammar.specs.Words.{less}
 use Rattle.syn_grammar.specs.Tokens.{Stream, end, punct, Brace, call_site, pick, at_generics}
@@ -39,7 +39,7 @@ course_of (Plan-m.SelfType' p d) = self_type (course_of d)
 abbrev pub trees_in_braces : Grammar
 trees_in_braces = inside Brace (rule rooted_trees)
 
--- one way of two, by whether one of the trees that were read from there on has `::` before it
+-- one of two ways, by whether one of the trees read from there on has `::` before it
 abbrev pub by_roots : Stream → (Written → Stream → Copy) → (Written → Stream → Copy) → Written → Stream → Copy
 by_roots ts p q w r = pick (roots false (before ts r)) (p w r) (q w r)
 
@@ -56,7 +56,7 @@ shown_generics = when at_generics then impl_parameters else empty
 abbrev pub printed_generics : Grammar
 printed_generics = vanishing false at_generics impl_parameters
 
--- there are no parameters: no generics stand there, or `<` with `>` behind it
+-- there are no parameters: no generics are next, or `<` followed by `>`
 abbrev pub ends_next : Out → Bool
 ends_next (Some p) = sees at_row_end p.1
 ends_next None = false
@@ -72,7 +72,7 @@ written_generics = punct 60 false call_site (punct 62 false call_site end)
 abbrev pub guessed_generics : Bool → Stream
 guessed_generics x = pick x written_generics end
 
--- WHERE IT IS GUESSED THAT ALL IS KEPT as tokens
+-- WHERE THE GUESS IS that all is stored verbatim
 abbrev pub copy_kept : Course → Written → Stream → Copy
 copy_kept (reads g d) w ts = next (copy_form g w ts) (copy_kept d)
 copy_kept (turns c d e) w ts = pick (sees c ts) (copy_kept d w ts) (copy_kept e w ts)
@@ -84,8 +84,8 @@ copy_kept (lists d) w ts = next (copy_form shown_generics w ts) (copy_kept d)
 copy_kept (led d) w ts = copy_kept d w ts
 copy_kept (self_type d) w ts = next (copy_form (rule for_self_type) w ts) (copy_kept d)
 
--- WHERE IT IS GUESSED THAT IT IS NOT KEPT. Of an impl's generics without parameters it may be guessed whether `< >` is printed (none: they are
--- shown, or what was guessed is settled).
+-- WHERE THE GUESS IS that it is not. Of an impl's generics without parameters it may be guessed whether `< >` is printed (none: they are
+-- shown, or the guess is settled).
 
 -- a guess is settled at the end: generics would be read nowhere
 abbrev pub settled : Option Bool → Copy → Copy

@@ -1,4 +1,4 @@
--- DEFERRED TREES: tokens that are read as a whole, what they are read as, and what is printed of it.
+-- DEFERRED TREES: tokens that are read as a whole, the tree they are read as, and the tokens that are printed.
 use Rattle.std.specs.Prelude.{◌≡◌, ℕ, zero, suc, Option, Some, None}
 use Rattle.syn_grammar.specs.Tokens.{Stream, end, Brace}
 use Rattle.syn_grammar.specs.Rules.{Rule, constant, whole_expression, statements, item, items}
@@ -24,13 +24,13 @@ tree_in None = Nothing
 abbrev pub read_as : Rule → Stream → Syntax
 read_as k ts = tree_in (parse_rule k ts)
 
--- the rule reads all of the first tokens, they are what is shown of what it reads, and the others are what is printed of it
+-- the rule reads all of the first tokens; they are the shown tokens of the tree, and the others its printed ones
 pub record IsDeferred (k : Rule) (source printed : Stream) : Type 0 where
   pub whole : parse_rule k source ≡ Some (read_as k source, end)
   pub shown : source ≡ show (read_as k source)
   pub as_printed : printed ≡ print (read_as k source)
 
--- what is printed, where it is told only if it isn't what is shown
+-- the printed tokens, which are given only where they differ from the shown ones
 abbrev pub printed_from : {B : Type 0} → (B → Stream) → Stream → Option B → Stream
 printed_from of source (Some b) = of b
 printed_from of source None = source
@@ -42,7 +42,7 @@ printed_or = printed_from (λ s. s)
 abbrev pub in_braces : {K : Type 0} → Delimiters K → Syntax → Syntax
 in_braces braces s = Node (Group Brace (at braces.opening) (at braces.closing) s)
 
--- an answer with nothing left
+-- a result with no tokens left
 abbrev pub whole_only : Out → Out
 whole_only (Some p) = only (is_end p.1) (Some p)
 whole_only None = None

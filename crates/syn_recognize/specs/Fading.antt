@@ -1,4 +1,4 @@
--- PARTS THAT AREN'T PRINTED WHERE THEIR LIST IS EMPTY: what stands before the list, the list, and whether it has a member.
+-- PARTS THAT AREN'T PRINTED WHERE THEIR LIST IS EMPTY: the token before the list, the list, and whether it has a member.
 use Rattle.std.specs.Prelude.{◌≡◌, Bool, false, [], Some, None, Result, Ok, Err}
 use Rattle.syn_grammar.specs.Words.{colon, w_where}
 use Rattle.syn_grammar.specs.Tokens.{Stream, Look, at_lifetime, at_mark, at_word, no}
@@ -33,7 +33,7 @@ list_rule Fading-m.TypeBounds = type_bounds
 abbrev pub fading_form : fading.Fading → Grammar
 fading_form k = vanishing false (fading_look k) (head_form k & rule (list_rule k))
 
--- the list that stands next has a member
+-- the list that is next has a member
 abbrev pub begins_list : fading.Fading → Stream → Bool
 begins_list Fading-m.Lifetimes ts = sees at_lifetime ts
 begins_list Fading-m.Bounds ts = no (sees at_parameter_end ts)
@@ -41,7 +41,7 @@ begins_list Fading-m.Predicates ts = no (sees at_predicate_end ts)
 begins_list Fading-m.Supertraits ts = no (sees at_supertraits_end ts)
 begins_list Fading-m.TypeBounds ts = no (sees at_type_bounds_end ts)
 
--- what was read isn't kept; or nothing is read
+-- the tree isn't stored; or nothing is read
 abbrev pub Skips : {E : Type 0} → (E → Type 0) → Out → Result (Unit {0}) E → Stream → Type 0
 Skips refusal out (Ok x) new = (s : Syntax) × (out ≡ Some (s, new))
 Skips refusal out (Err e) new = refusal e → out ≡ None

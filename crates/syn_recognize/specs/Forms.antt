@@ -1,4 +1,4 @@
--- WHAT FORMS AS DATA STAND FOR.
+-- WHAT FORMS AS DATA DENOTE.
 use Rattle.std.specs.Prelude.{true, false, [], ◌∷◌}
 use Rattle.syn_grammar.specs.Words.{w_self, w_Self_type, w_super, w_crate, w_try, w_underscore}
 use Rattle.syn_grammar.specs.Rules.{whole_expression}

@@ -1,5 +1,5 @@
--- WHICH MEMBERS STAND BEHIND SOME OTHER MEMBER OF A LIST and are printed before it is guessed beforehand: of each what is printed of
--- it, and the span of its comma.
+-- MEMBERS THAT FOLLOW SOME OTHER MEMBER OF A LIST and are printed before it, as they are guessed beforehand: the printed tokens of each,
+-- and the span of its comma.
 use Rattle.std.specs.Prelude.{Bool, true, false, List, [], ◌∷◌, nat_eq}
 use Rattle.std.specs.Coded.{Coded, coded×, coded_list}
 use Rattle.syn_grammar.specs.Tokens.{Span, Stream, end, leaf, punct, group, and}

@@ -1,4 +1,4 @@
--- CONDITIONS ON WHAT STANDS NEXT IN ITEMS, in parts.
+-- LOOKAHEADS IN ITEMS, in parts.
 use Rattle.syn_grammar.specs.Words.{w_async, w_auto, w_const, w_default, w_enum, w_extern, w_fn, w_impl, w_macro, w_mod, w_move, w_pub, w_static, w_struct, w_trait, w_type, w_union, w_unsafe, w_use, bar, less_equals, less, colons, greater, w_as}
 use Rattle.syn_grammar.specs.Tokens.{Look, Brace, Paren, Bang_brace, Bang_name, Begins_item, Not_item, at_mark, at_parameter, at_word, at_group, ahead, ◌or_else◌, ◌and_also◌, ◌but_not◌}
 use Rattle.syn_grammar.specs.Table.{at_lone_crate, at_module_path}
@@ -17,15 +17,15 @@ at_other_item_word = at_word w_type or_else at_word w_struct or_else at_word w_e
 abbrev pub at_item_word : Look
 at_item_word = at_first_item_word or_else at_other_item_word
 
--- `crate` that no `::` follows, and not as the whole path of a macro with a group in braces
+-- `crate` without `::` after it that is not the whole path of a macro with a group in braces
 abbrev pub at_crate_item : Look
 at_crate_item = at_lone_crate but_not ahead Bang_brace
 
--- what an expression begins with behind `const`
+-- what begins an expression after `const`
 abbrev pub at_const_expression : Look
 at_const_expression = at_group Brace or_else at_word w_static or_else at_word w_move or_else at_mark bar or_else at_word w_async but_not ahead Begins_item
 
--- words that begin an item by what follows them
+-- words that begin an item depending on the tokens after them
 abbrev pub at_const_item : Look
 at_const_item = at_word w_const but_not ahead Not_item
 
@@ -50,10 +50,10 @@ at_default_item = at_word w_default and_also ahead Begins_item
 abbrev pub at_marked_word : Look
 at_marked_word = at_const_item or_else at_unsafe_item or_else at_static_item or_else at_async_item or_else at_union_item or_else at_auto_item or_else at_default_item
 
--- what a type goes on with behind an identifier
+-- what continues a type after an identifier
 abbrev pub at_type_rest : Look
 at_type_rest = at_mark colons or_else at_mark less but_not at_mark less_equals or_else at_group Paren or_else at_word w_as
 
--- what generics hold behind `<`
+-- what follows the `<` of generics
 abbrev pub at_first_parameter : Look
 at_first_parameter = at_mark greater or_else at_parameter

@@ -1,5 +1,5 @@
--- LEVELS OF OPERATORS: what may stand behind an operand, the levels that bind most tightly first. An expression is an operand and
--- all of them, one behind the other; an operand of some level is one and those that bind more tightly.
+-- LEVELS OF OPERATORS: what may follow an operand, the levels that bind most tightly first. An expression is an operand and all of them in
+-- turn; an operand of some level is one and the levels that bind more tightly.
 use Rattle.std.specs.Prelude.{◌≡◌, ◌-◌, ℕ, zero, suc, Bool, true, false, List, [], ◌∷◌, nat_eq}
 use Rattle.syn_grammar.specs.Tokens.{Stream, or}
 use Rattle.syn_grammar.specs.Rules.{Rule, casts, products, sums, shifts, bit_ands, bit_xors, bit_ors, compared, conjunctions, disjunctions, assigned, products_head, sums_head, shifts_head, bit_ands_head, bit_xors_head, bit_ors_head, compared_head, conjunctions_head, disjunctions_head, assigned_head}
@@ -13,16 +13,16 @@ use Rattle.syn_recognize.specs.May.{may}
 use Rattle.syn_recognize.specs.Written.{Written}
 use Rattle.syn_recognize.specs.Copies.{Copy, Reached, next, copy_form}
 
--- behind all operators of an expression, nothing stands that would go on with it
+-- nothing that continues an expression follows all its operators
 abbrev pub finished : Grammar
 finished = when at_unfinished then (one_of []) else empty
 
--- a rule, or what stands behind all of them
+-- a rule, or the end of all levels
 pub data Rail : Type 0 where
   by : Rule → Rail
   done : Rail
 
--- behind an operand, and then behind one in the head of an `if`, a `while` or a `for`
+-- after an operand, and then after one in the head of an `if`, a `while` or a `for`
 abbrev pub ladder : List Rail
 ladder =
     by casts ∷ by products ∷ by sums ∷ by shifts ∷ by bit_ands ∷ by bit_xors ∷ by bit_ors ∷ by compared ∷ by conjunctions ∷ by disjunctions ∷ by assigned ∷ done
@@ -49,7 +49,7 @@ abbrev pub climb : ℕ → ℕ → Written → Stream → Copy
 climb zero n w ts = Reached w ts
 climb (suc k) n w ts = next (copy_form (level n) w ts) (climb k (suc n))
 
--- the form may read something where this stands next; where not, it is one that reads nothing there
+-- the form may read something before this next token; otherwise it reads nothing there
 abbrev pub loud : Grammar → First → Bool
 loud empty f = false
 loud unshown f = false
@@ -57,15 +57,15 @@ loud (vanishing true c g) f = may c f
 loud (when c then g else h) f = or (may c f) (loud h f)
 loud g f = true
 
--- the second rule reads the first, and so many levels behind it, from this one on
+-- the second rule reads the first, and then so many levels from this one on
 unfoldable pub Rung : Rule → ℕ → Rule → ℕ → Type 0
 Rung u b k j = (w : Written) (ts : Stream) → copy_form (rule k) w ts ≡ next (copy_form (rule u) w ts) (climb j b)
 
--- of the levels from one number up to another, those before a third read nothing where this stands next
+-- the levels from the first number up to the third read nothing before this next token
 unfoldable pub Passes : ℕ → ℕ → ℕ → First → Type 0
 Passes n k m f = (w : Written) (ts : Stream) → Begins f ts → climb (k - n) n w ts ≡ climb (k - m) m w ts
 
--- nothing that any level reads stands next, for sure: a comma, a semicolon, braces, or what no mark or keyword is
+-- no level reads this next token: a comma, a semicolon, braces, or anything but a mark, a keyword or another group
 abbrev pub ends : First → Bool
 ends F.Ended = true
 ends F.Name = true

@@ -1,4 +1,4 @@
--- WHAT ONE LOOK AT THE NEXT TOKEN TREE TELLS of conditions on what stands next.
+-- WHAT THE NEXT TOKEN TREE ALONE DECIDES of lookaheads.
 use Rattle.std.specs.Prelude.{ℕ, Bool, true, false, [], ◌∷◌, nat_eq}
 use Rattle.syn_grammar.specs.Words.{Text, keywords}
 use Rattle.syn_grammar.specs.Tokens.{Delimiter, Paren, Brace, Bracket, delimiter_number, or, one_of_texts, Look, ended, at_name, at_word, at_mark, at_literal, at_group, at_empty_group, ahead, ◌or_else◌, ◌and_also◌, ◌but_not◌}
@@ -51,7 +51,7 @@ abbrev pub is_word : Bool → First → Bool
 is_word true f = is_keyword f
 is_word false f = is_name f
 
--- the condition may hold where this stands next
+-- the lookahead may hold before this next token
 abbrev pub may : Look → First → Bool
 may ended f = is_ended f
 may at_name f = is_name f
@@ -65,7 +65,7 @@ may (c or_else d) f = or (may c f) (may d f)
 may (c and_also d) f = may c f
 may (c but_not d) f = may c f
 
--- the condition holds there for sure
+-- the lookahead holds there for sure
 abbrev pub sure : Look → First → Bool
 sure ended f = is_ended f
 sure at_name f = is_name f
@@ -73,7 +73,7 @@ sure (at_group d) f = is_group d f
 sure (c or_else d) f = or (sure c f) (sure d f)
 sure _ f = false
 
--- the same of conditions as data
+-- the same of lookaheads as data
 abbrev pub may_hold : look.Look → First → Bool
 may_hold Look-m.Ended f = is_ended f
 may_hold Look-m.Name f = is_name f

@@ -1,5 +1,5 @@
 -- Written by tools/recognizers.py; edits are lost.
--- WHAT WORDS, MARKS, LOOKS, SHAPES AND RULES AS DATA STAND FOR.
+-- WHAT WORDS, MARKS, LOOKAHEADS, SHAPES AND RULES AS DATA DENOTE.
 use Rattle.std.specs.Prelude.{ℕ, [], ◌∷◌, get_or}
 use Rattle.syn_grammar.specs.Words.{Text, w_as, w_async, w_auto, w_break, w_const, w_continue, w_crate, w_default, w_else, w_enum, w_extern, w_false, w_fn, w_for, w_if, w_impl, w_in, w_let, w_loop, w_macro, w_mod, w_mut, w_pub, w_ref, w_return, w_safe, w_Self_type, w_self, w_static, w_struct, w_trait, w_true, w_try, w_type, w_underscore, w_union, w_unsafe, w_use, w_where, w_while, ampersand, and_and, ampersand_equals, caret, caret_equals, colon, comma, dot, dots, ellipsis, equals, equal_equal, greater_equals, greater, less_equals, less, minus, minus_equals, not_equals, exclamation, bar, bar_equals, or_or, colons, percent, percent_equals, plus, plus_equals, pound, question, arrow, semicolon, less_less, less_less_equals, greater_greater, greater_greater_equals, slash, slash_equals, star, star_equals}
 use Rattle.syn_grammar.specs.Words.{w_union, w_auto}

@@ -1,4 +1,4 @@
--- WHAT A RULE READS WHERE IT IS KNOWN WHAT STANDS NEXT: its form, without what that rules out.
+-- RULES SPECIALISED TO THE NEXT TOKEN: their forms, without the alternatives that it rules out.
 use Rattle.std.specs.Prelude.{◌≡◌, ℕ, zero, suc, Bool, true, false, List}
 use Rattle.syn_grammar.specs.Tokens.{Stream, Look, pick}
 use Rattle.syn_grammar.specs.Rules.{Rule}
@@ -10,23 +10,23 @@ use Rattle.syn_recognize.specs.May.{may, sure}
 use Rattle.syn_recognize.specs.Written.{Written}
 use Rattle.syn_recognize.specs.Copies.{copy_form}
 
--- where this stands next, the form is read as the rule is
+-- before this next token, the form is read as the rule is
 unfoldable pub Opens : First → Grammar → Rule → Type 0
 Opens f g k = (w : Written) (ts : Stream) → Begins f ts → copy_form (rule k) w ts ≡ copy_form g w ts
 
--- one form and then another, of which it is known what it is where the first reads nothing
+-- one form and then another, which is known where the first reads nothing
 abbrev pub both : Grammar → Grammar → Grammar → Grammar
 both empty h p = p
 both unshown h p = p
 both g h p = g & h
 
--- a choice, by whether its condition holds for sure, and whether it may hold
+-- a choice, by whether its lookahead holds for sure, and whether it may hold
 abbrev pub either_way : Bool → Bool → Look → Grammar → Grammar → Grammar
 either_way true b c g h = g
 either_way false true c g h = when c then g else h
 either_way false false c g h = h
 
--- a form without what is ruled out, in so many steps; these rules are opened
+-- a form without the excluded alternatives, in so many steps; these rules are opened
 abbrev pub pruned : List Rule → ℕ → First → Grammar → Grammar
 pruned ks zero f g = g
 pruned ks (suc n) f (when c then g else h) = either_way (sure c f) (may c f) c (pruned ks n f g) (pruned ks n f h)

@@ -29,7 +29,7 @@ member k = union (parse_form (first_form k)) (parse_form (other_form k))
 pub record Tells (k : list.List) (ts : Stream) (b : Bool) : Type 0 where
   pub is : member k ts ≡ branch b (parse_form (first_form k) ts) (parse_form (other_form k) ts)
 
--- behind what was read a lifetime stands, or none
+-- a lifetime follows what was read, or none
 abbrev pub LeadsTo : Out → Bool → Type 0
 LeadsTo (Some p) b = sees at_lifetime p.1 ≡ b
 LeadsTo None b = Unit {0}

@@ -1,5 +1,5 @@
 -- Written by tools/recognizers.py; edits are lost.
--- THE PARTS OF RULES THAT HAVE STATICS OF THEIR OWN: where each stands in its rule.
+-- THE PARTS OF RULES THAT HAVE STATICS OF THEIR OWN: the place of each in its rule.
 use Rattle.std.specs.Prelude.{ℕ, true, false, [], ◌∷◌, get_or}
 use Rattle.syn_grammar.specs.Words.{colon, equals, exclamation, semicolon, w_as, w_async, w_const, w_default, w_enum, w_fn, w_let, w_struct, w_trait, w_try, w_type, w_underscore, w_union, w_unsafe, w_where}
 use Rattle.syn_grammar.specs.Tokens.{Paren, Brace, Begins_in, Lone_word, at_word, ahead, ◌or_else◌, ◌and_also◌, ◌but_not◌}

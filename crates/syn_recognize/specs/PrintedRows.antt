@@ -1,5 +1,4 @@
--- HOW A LIST WITH SOME MEMBERS FIRST IS PRINTED in the order of its tokens, where those of them that stand behind some other member
--- are known beforehand.
+-- HOW A LIST WITH SOME MEMBERS FIRST IS PRINTED in the order of its tokens, where those that follow some other member are known beforehand.
 use Rattle.std.specs.Prelude.{Bool, true, false, List, [], ◌∷◌}
 use Rattle.syn_grammar.specs.Tokens.{Span, call_site, Stream, end, punct, ◌⧺◌}
 use Rattle.syn_grammar.specs.Grammar.{Syntax, Last, More, show, print}
@@ -31,7 +30,7 @@ others_of a (More false s sp t) = with_comma (way a s) sp (others_of a t)
 others_of a (Last true s) = end
 others_of a t = way a t
 
--- a printed list: its members of the first form that stand before all others; those that stand behind one; and the others
+-- a printed list: its members of the first form before all others; those that follow another; and the others
 abbrev pub print_row : Syntax → Stream
 print_row (More true s sp t) = with_comma (print s) sp (print_row t)
 print_row (More false s sp t) = print_firsts (firsts t) ⧺ with_comma (print s) sp (others_of true t)

@@ -1,5 +1,5 @@
 -- Written by tools/recognizers.py; edits are lost.
--- THE COURSES OF PLANS, and the forms of which they are.
+-- THE COURSES OF PLANS, and the forms that these plans read.
 use Rattle.std.specs.Prelude.{ℕ, true, false, [], ◌∷◌, get_or}
 use Rattle.syn_grammar.specs.Words.{colon, colons, equals, exclamation, semicolon, w_Self_type, w_as, w_async, w_auto, w_const, w_crate, w_default, w_enum, w_extern, w_fn, w_impl, w_let, w_macro, w_mod, w_mut, w_pub, w_safe, w_self, w_static, w_struct, w_trait, w_try, w_type, w_underscore, w_union, w_unsafe, w_use, w_where}
 use Rattle.syn_grammar.specs.Tokens.{Paren, Brace, Str, Before_colons, Before_macro, Begins_item, Begins_in, Lone_word, at_word, at_literal, at_empty_group, ahead, at_generics, ◌or_else◌, ◌and_also◌, ◌but_not◌}

@@ -1,4 +1,4 @@
--- WHAT IS STILL TO BE DONE, as a function from what is written and left before to what is written and left behind it.
+-- DEFERRED STEPS, as a function from the output and the tokens left before them to those after them.
 use Rattle.std.specs.Prelude.{◌≡◌, ◌-◌, List, [], ◌∷◌, Result, Ok, Err}
 use Rattle.syn_grammar.specs.Tokens.{Stream}
 use Rattle.syn_grammar.specs.Grammar.{Grammar}
@@ -33,7 +33,7 @@ unfoldable pub todo : List Step → Copy → Copy
 todo [] o = o
 todo (s ∷ l) o = after s (todo l o)
 
--- what a step promises: what was to be done is what is still to be done; or nothing is read by it
+-- what a step promises: the steps deferred before do what those deferred after it do; or it reads nothing
 abbrev pub Steps : {E : Type 0} → (E → Type 0) → List Step → Copy → Result (Unit {0}) E → List Step → Written → Stream → Type 0
 Steps refusal old out (Ok x) new w ts = todo old out ≡ todo new (Reached w ts)
 Steps refusal old out (Err e) new w ts = refusal e → out ≡ Refused
@@ -43,16 +43,16 @@ abbrev pub Guessing : {E : Type 0} → (E → Type 0) → List Step → Copy →
 Guessing refusal old out (Ok x) new w ts = Leads (todo old out) (todo new (Reached w ts))
 Guessing refusal old out (Err e) new w ts = refusal e → out ≡ Refused
 
--- all was done, or nothing is read
+-- all steps are done, or nothing is read
 abbrev pub Runs : {E : Type 0} → (E → Type 0) → Copy → Result (Unit {0}) E → Written → Stream → Type 0
 Runs refusal out (Ok x) w ts = out ≡ Reached w ts
 Runs refusal out (Err e) w ts = refusal e → out ≡ Refused
 
--- the same of several steps, of which one may begin with a guess: nothing is read by all that was to be done
+-- the same of several steps, of which one may begin with a guess: all the deferred steps read nothing
 abbrev pub Leading : {E : Type 0} → (E → Type 0) → List Step → Copy → Result (Unit {0}) E → List Step → Written → Stream → Type 0
 Leading refusal old out (Ok x) new w ts = Leads (todo old out) (todo new (Reached w ts))
 Leading refusal old out (Err e) new w ts = refusal e → todo old out ≡ Refused
 
--- what was to be done is what is still to be done once this form is read
+-- the steps deferred before do what this form and the steps deferred after it do
 pub record GoesOn (old : List Step) (out : Copy) (new : List Step) (g : Grammar) (w : Written) (ts : Stream) : Type 0 where
   pub same : todo old out ≡ todo new (copy_form g w ts)

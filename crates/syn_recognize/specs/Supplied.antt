@@ -10,7 +10,7 @@ use Rattle.syn_recognize.specs.Written.{Written, adds}
 use Rattle.syn_recognize.specs.declared.supplied.Nameless.{Nameless}
 use Rattle.syn_recognize.specs.declared.supplied.Nameless.TheVariants as Nameless-m
 
--- what stands behind the name and its colon
+-- what follows the name and its colon
 abbrev pub typed_form : Nameless → Grammar
 typed_form Nameless-m.Argument = rule type
 typed_form Nameless-m.Input = when at_ellipsis then rule variadic else rule type & (when at_comma then mark false comma & rule later_inputs else empty)
@@ -22,6 +22,6 @@ supplied_form k = supplied Before_less (rule pattern) (typed_form k)
 abbrev pub unnamed : Span → Stream
 unnamed sp = leaf (ident w_underscore) sp (punct 58 false sp end)
 
--- this is written, with the span of the token that stands next
+-- this is written, with the span of the next token
 abbrev pub Unnamed : Written → Stream → Written → Type 0
 Unnamed old ts new = (sp : Span) × (leaf_span ts ≡ Some sp) × (new ≡ adds old (unnamed sp))

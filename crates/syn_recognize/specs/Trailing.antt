@@ -10,7 +10,7 @@ abbrev pub is_brace : Delimiter → Bool
 is_brace Brace = true
 is_brace _ = false
 
--- of trees behind others, of which this is known
+-- of trees after others, of which it is known whether they end with braces
 abbrev pub ends_by : Bool → Stream → Bool
 ends_by b end = b
 ends_by b (leaf x sp m) = ends_by false m

@@ -1,4 +1,4 @@
--- WHERE A FORM STANDS IN ANOTHER.
+-- THE FORMS IN A FORM.
 use Rattle.syn_grammar.specs.Grammar.{Grammar, ◌&◌, when◌then◌else◌, inside, either, shaped, ordered, vanishing, captured}
 
 -- the first form that a form is made of, or the only one

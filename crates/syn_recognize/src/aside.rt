@@ -1,4 +1,4 @@
-//! What is read without being written where it stands.
+//! Reading without writing in place: the output is dropped, or written aside.
 ghost use Rattle.std.specs.Prelude.{◌≡◌, true, false};
 ghost use Rattle.syn_grammar.specs.Grammar.{vanishing, captured};
 ghost use Rattle.syn_parse.specs.Refusals.{IsSyntax};
@@ -14,7 +14,7 @@ use crate::writer::Writer;
 use syn_parse::buffer::ParseBuffer;
 use syn_parse::read::refusal::{Parsed, Refusal};
 
-/// Reads a part that is never printed, where the look holds.
+/// Reads a part that is never printed, if the lookahead holds.
 #[tactic(auto, using(crate::proofs::Todo::push, crate::proofs::WrittenAside::hidden_absent, crate::proofs::WrittenAside::hidden_is))]
 pub(crate) fn read_hidden<'a>(
     look: &Look,
@@ -34,7 +34,7 @@ pub(crate) fn read_hidden<'a>(
     Ok(())
 }
 
-/// Goes on with what was written before.
+/// Restores the output that was set aside.
 pub(crate) fn forget(before: Box<Writer>, out: &mut Writer, input: &ParseBuffer<'_>) -> Parsed<()>
     ensures { Runs IsSyntax (forgetting before.value out.old input.now) result out.new input.now }
 {
@@ -42,7 +42,7 @@ pub(crate) fn forget(before: Box<Writer>, out: &mut Writer, input: &ParseBuffer<
     Ok(())
 }
 
-/// Reads a part that is kept as the tokens that it is read of.
+/// Reads a part whose tokens are copied unchanged.
 #[tactic(auto, using(crate::proofs::Todo::push, crate::proofs::WrittenAside::captured_is))]
 pub(crate) fn read_captured<'a>(
     form: &'static Form,
@@ -58,8 +58,8 @@ pub(crate) fn read_captured<'a>(
     Ok(())
 }
 
-/// Goes on with what was written before, and writes what was read from there on, as it is. Where what is written is dropped, so that
-/// such a part stands in another one, nothing is copied.
+/// Restores the output that was set aside, and copies the tokens from `begin` to the cursor unchanged. Copies nothing inside a part whose
+/// output is dropped.
 #[tactic(auto, using(crate::proofs::Writes::adds_nothing))]
 pub(crate) fn capture<'a>(
     before: Box<Writer>,

@@ -1,4 +1,4 @@
-//! Whether what was read ends with braces.
+//! Whether the tokens that were read end with braces.
 ghost use Rattle.std.specs.Prelude.{◌≡◌, false};
 ghost use Rattle.syn_grammar.specs.Take.{before, first};
 ghost use Rattle.syn_recognize.specs.Trailing.{ends_by, is_brace_group};
@@ -7,7 +7,7 @@ use syn_parse::buffer::ParseBuffer;
 use syn_tokens::delimiter::Delimiter;
 use syn_tokens::stream::cursor::{Cursor, TokenTreeRef};
 
-/// Whether a group in braces is the last token tree that was read from the first buffer up to the second.
+/// Whether the last token tree between `start` and `end` is a group in braces.
 #[tactic(auto, unfolding(syn_grammar::specs::Take::before))]
 pub(crate) fn has_trailing_brace<'a>(start: &ParseBuffer<'a>, end: &ParseBuffer<'a>) -> bool
     ensures { result ≡ ends_by false (before start.now end.now) }
@@ -17,7 +17,7 @@ pub(crate) fn has_trailing_brace<'a>(start: &ParseBuffer<'a>, end: &ParseBuffer<
     ends_with_braces(&trees, count)
 }
 
-/// Whether the last of so many token trees is a group in braces.
+/// Whether the last of this many token trees is a group in braces.
 fn ends_with_braces(trees: &Cursor<'_>, count: usize) -> bool
     ensures { result ≡ ends_by false (first count trees.now) }
 {

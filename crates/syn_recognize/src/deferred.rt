@@ -1,5 +1,5 @@
-//! Deferred trees: trees that are kept as their tokens, and read when somebody opens them. A type may hold one that leads
-//! back to itself through its tree: nothing that is kept, read, copied, compared, printed or dropped knows the tree's type.
+//! Deferred trees: trees that are stored as their tokens, and parsed when they are opened. A type may hold one that leads back to itself
+//! through its tree, because nothing that is stored, read, copied, compared, printed or dropped depends on the tree's type.
 ghost use Rattle.std.specs.Prelude.{◌≡◌, ◌↔◌, [], true, None, Some, IfOk, IfErr, OnOk, IsTrue};
 ghost use Rattle.syn_grammar.specs.Tokens.{end};
 ghost use Rattle.syn_grammar.specs.Grammar.{rule, show, print, plain_syntax};
@@ -39,7 +39,7 @@ mod block;
 
 pub use block::{BlockOf, DeferredBlock};
 
-/// A type of the trees that a deferred one stands for. It may stand above all types that hold a deferred tree.
+/// A tree type that a deferred one opens to. Its crate may be above all crates whose types hold a deferred tree.
 pub trait TreeOf<const KIND: usize>: ToTokens + Drop {
     ghost use Rattle.syn_grammar.specs.Grammar.{Syntax};
     ghost use Rattle.syn_grammar.specs.Run.{parse_rule};
@@ -47,10 +47,10 @@ pub trait TreeOf<const KIND: usize>: ToTokens + Drop {
     ghost use Rattle.syn_parse.specs.Refusals.{IsSyntax};
     ghost use Rattle.syn_recognize.specs.DeferredTokens.{kind_rule};
 
-    /// What a tree stands for, as the kind's rule reads it.
+    /// The syntax of a tree, as the kind's rule reads it.
     ghost whole: { Self → Syntax };
 
-    /// Reads a tree by the kind's rule. Refused for the input only where the rule computes nothing.
+    /// Reads a tree by the kind's rule. Reports a syntax error only where the rule derives nothing.
     fn read_tree(input: &mut ParseBuffer<'_>) -> Parsed<Self>
         ensures reads { Computes IsSyntax Self.whole (parse_rule (kind_rule KIND) input.old) result input.new };
 }
@@ -73,9 +73,9 @@ pub type DeferredItems = Deferred<4>;
 /// A tree as its tokens, which are known to be one of its kind.
 #[derive(Drop)]
 pub struct Deferred<const KIND: usize> {
-    /// What is shown of the tree, from which it is read.
+    /// The shown tokens of the tree, from which it is parsed.
     shown: Box<TokenStream>,
-    /// What is printed of it, where that isn't what is shown.
+    /// The printed tokens, where they differ from the shown ones.
     printed: Option<Box<TokenStream>>,
 }
 
@@ -98,8 +98,8 @@ impl<const KIND: usize> Syntactic for Deferred<KIND> {
 }
 
 impl<const KIND: usize> Deferred<KIND> {
-    /// These tokens: the kind's rule reads the shown ones as a whole, they are what is shown of what it reads, and the printed
-    /// ones are what is printed of it.
+    /// A tree from its tokens: the kind's rule reads all of the shown ones, they are the shown tokens of that tree, and the printed ones
+    /// are its printed tokens.
     fn of(tokens: ShownAndPrinted, alloc: Global) -> std::result::Result<Deferred<KIND>, AllocError>
         requires { IsDeferred (kind_rule KIND) tokens.shown tokens.printed }
         ensures { IfOk result (λ deferred. deferred ≡ read_as (kind_rule KIND) tokens.shown) }
@@ -110,7 +110,7 @@ impl<const KIND: usize> Deferred<KIND> {
         Deferred::kept(tokens.shown, Some(tokens.printed), alloc)
     }
 
-    /// The same, where what is printed is told only if it isn't what is shown.
+    /// The same, with the printed tokens given only where they differ from the shown ones.
     fn kept(
         shown: TokenStream,
         printed: Option<TokenStream>,
@@ -137,7 +137,7 @@ impl<const KIND: usize> Deferred<KIND> {
         &self.shown
     }
 
-    /// Its tokens as they are printed: in lists in `< >` lifetimes stand first.
+    /// Its tokens as they are printed: in lists in `< >` lifetimes come first.
     fn printed(&self) -> &TokenStream
         ensures { result.now ≡ print self.now }
     {
@@ -147,8 +147,8 @@ impl<const KIND: usize> Deferred<KIND> {
         }
     }
 
-    /// The tree that it stands for, spans included. Refused only where memory is, and where the tree's type reads no tree that is
-    /// nested so deep.
+    /// Parses the tree from its tokens, with their spans. Fails only where memory is refused, or where the tree's type doesn't accept this
+    /// nesting depth.
     pub fn open<T: TreeOf<KIND>>(&self) -> Result<T>
         ensures ok { IfOk result (λ tree. T.whole tree ≡ self.now) }
         ensures memory { IfErr result (λ e. e ≡ []) }
@@ -157,7 +157,7 @@ impl<const KIND: usize> Deferred<KIND> {
         Ok(T::read_tree(&mut input)?)
     }
 
-    /// A tree as what its print is read as. It is refused where its print is not read as a whole, and where memory is.
+    /// The tree that the print of this one is read as. Fails where the print is not read as a whole, or where memory is refused.
     #[tactic(auto, using(syn_parse::proofs::Refused::refused_by_syntax))]
     pub fn new<T: TreeOf<KIND>>(tree: &T, alloc: Global) -> Result<Deferred<KIND>>
         ensures { Computes IsSyntaxError itself (whole_only (parse_rule (kind_rule KIND) (print (T.syntax tree.now)))) result end }
@@ -168,7 +168,7 @@ impl<const KIND: usize> Deferred<KIND> {
     }
 }
 
-/// The print of a tree; refused only where memory is.
+/// The print of a tree. Fails only where memory is refused.
 fn printed_tokens<T: ToTokens>(tree: &T, alloc: Global) -> Parsed<TokenStream>
     ensures print { IfOk result (λ stream. stream ≡ print (T.syntax tree.now)) }
     ensures memory { IfErr result (λ e. e ≡ Memory None) }
@@ -180,7 +180,7 @@ fn printed_tokens<T: ToTokens>(tree: &T, alloc: Global) -> Parsed<TokenStream>
     }
 }
 
-/// The rule by which such a tree is read.
+/// The rule that reads such a tree.
 #[tactic(auto, unfolding(crate::specs::Names::rule_of))]
 fn rule_of_kind(kind: usize) -> Rule
     ensures { rule_of result ≡ kind_rule kind }
@@ -206,7 +206,7 @@ fn tokens_of<const KIND: usize>(input: &mut ParseBuffer<'_>) -> Parsed<ShownAndP
     recognized_and_printed(rule_of_kind(KIND), input)
 }
 
-/// Reads a tree, and keeps its tokens alone. Statements and items in a row aren't read so: what goes them on may stand behind them.
+/// Reads a tree and stores only its tokens. Excludes statements and items in a row: the tokens after them may continue them.
 pub fn read_deferred<const KIND: usize>(input: &mut ParseBuffer<'_>) -> Parsed<Deferred<KIND>>
     requires { stands_alone (kind_rule KIND) ≡ true }
     ensures reads { Computes IsSyntax itself (parse_rule (kind_rule KIND) input.old) result input.new }
@@ -216,7 +216,7 @@ pub fn read_deferred<const KIND: usize>(input: &mut ParseBuffer<'_>) -> Parsed<D
     Ok(Deferred::of(tokens, input.alloc())?)
 }
 
-/// Reads a tree that is all that is left of a group or stream, and keeps its tokens alone.
+/// Reads a tree up to the end of a group or stream, and stores only its tokens.
 pub fn read_deferred_rest<const KIND: usize>(input: &mut ParseBuffer<'_>) -> Parsed<Deferred<KIND>>
     ensures reads { Computes IsSyntax itself (whole_only (parse_rule (kind_rule KIND) input.old)) result input.new }
     ensures ended { OnOk result (input.new ≡ end) }
@@ -253,7 +253,7 @@ impl<const KIND: usize> Compared for Deferred<KIND> {
     }
 }
 
-/// Two are equal exactly where their trees are once every span is 0 to 0: where their tokens are. It takes no memory.
+/// Two trees are equal exactly where they are once every span is 0 to 0, which is where their tokens are equal. Allocates nothing.
 impl<const KIND: usize> PartialEq for Deferred<KIND> {
     ghost eq = { same_by itself };
 

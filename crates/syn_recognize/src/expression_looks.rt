@@ -1,4 +1,4 @@
-//! Conditions on what stands next in expressions.
+//! Lookaheads in expressions.
 ghost use Rattle.std.specs.Prelude.{◌≡◌};
 ghost use Rattle.syn_grammar.specs.Take.{sees};
 ghost use Rattle.syn_grammar.specs.Table as table;
@@ -15,7 +15,7 @@ use syn_tokens::token::{
     Ne, Not, Paren, PathSep, Pound, Question, Return, Star, True, Unsafe, While,
 };
 
-/// Whether `.` stands next, and not `..`.
+/// Whether the next token is `.`, and not `..`.
 #[tactic(auto, using(syn_grammar::proofs::Looks::sees_but))]
 pub fn at_dot(input: &ParseBuffer<'_>) -> bool
     ensures { result ≡ sees table.at_dot input.now }
@@ -23,7 +23,7 @@ pub fn at_dot(input: &ParseBuffer<'_>) -> bool
     input.peek::<Dot>() && !input.peek::<DotDot>()
 }
 
-/// Whether `?` or a `.` that isn't `..` stands next.
+/// Whether the next token is `?`, or a `.` that isn't `..`.
 #[tactic(auto, using(syn_grammar::proofs::Looks::sees_or))]
 pub fn at_postfix_mark(input: &ParseBuffer<'_>) -> bool
     ensures { result ≡ sees table.at_postfix_mark input.now }
@@ -31,7 +31,8 @@ pub fn at_postfix_mark(input: &ParseBuffer<'_>) -> bool
     input.peek::<Question>() || at_dot(input)
 }
 
-/// Whether an expression stands next that may be a statement without `;`: a block, a label, `if`, `while`, `for`, `loop` or `unsafe`.
+/// Whether the next token begins an expression that may be a statement without `;`: a block, a label, `if`, `while`, `for`, `loop` or
+/// `unsafe`.
 #[tactic(auto, using(syn_grammar::proofs::Looks::sees_or))]
 pub fn at_block_like(input: &ParseBuffer<'_>) -> bool
     ensures { result ≡ sees table.at_block_like input.now }
@@ -45,7 +46,7 @@ pub fn at_block_like(input: &ParseBuffer<'_>) -> bool
         || input.peek::<Unsafe>()
 }
 
-/// Whether a literal stands next, or what a path may begin with.
+/// Whether the next token is a literal, or may begin a path.
 #[tactic(auto, using(syn_grammar::proofs::Looks::sees_or))]
 fn at_literal_or_path(input: &ParseBuffer<'_>) -> bool
     ensures { result ≡ sees (table.at_any_literal or_else grammar.at_word w_true or_else grammar.at_word w_false or_else grammar.at_path_word or_else table.at_colons or_else table.at_less) input.now }
@@ -58,7 +59,7 @@ fn at_literal_or_path(input: &ParseBuffer<'_>) -> bool
         || input.peek::<Lt>()
 }
 
-/// Whether a keyword stands next that begins an expression.
+/// Whether the next token is a keyword that begins an expression.
 #[tactic(auto, using(syn_grammar::proofs::Looks::sees_or))]
 fn at_expression_word(input: &ParseBuffer<'_>) -> bool
     ensures { result ≡ sees (grammar.at_word w_if or_else grammar.at_word w_loop or_else grammar.at_word w_while or_else grammar.at_word w_for or_else grammar.at_word w_unsafe or_else grammar.at_word w_return or_else grammar.at_word w_break or_else grammar.at_word w_continue) input.now }
@@ -73,7 +74,7 @@ fn at_expression_word(input: &ParseBuffer<'_>) -> bool
         || input.peek::<Continue>()
 }
 
-/// Whether a group, a sign, an attribute or a label stands next.
+/// Whether the next token is a group, a sign, `#` or a label.
 #[tactic(auto, using(syn_grammar::proofs::Looks::sees_or))]
 fn at_group_or_sign(input: &ParseBuffer<'_>) -> bool
     ensures { result ≡ sees (table.at_paren or_else table.at_bracket or_else table.at_brace or_else table.at_minus or_else table.at_exclamation or_else table.at_star or_else table.at_ampersand or_else table.at_pound or_else grammar.at_lifetime) input.now }
@@ -89,7 +90,7 @@ fn at_group_or_sign(input: &ParseBuffer<'_>) -> bool
         || input.peek::<Lifetime>()
 }
 
-/// Whether what any expression may begin with stands next.
+/// Whether the next token may begin an expression.
 #[tactic(auto, using(crate::proofs::ExpressionLooks::whole_expression_seen))]
 pub fn at_whole_expression(input: &ParseBuffer<'_>) -> bool
     ensures { result ≡ sees table.at_whole_expression input.now }
@@ -97,7 +98,7 @@ pub fn at_whole_expression(input: &ParseBuffer<'_>) -> bool
     at_literal_or_path(input) || at_expression_word(input) || at_group_or_sign(input)
 }
 
-/// Whether a postfix or a comparison stands next, behind which no whole expression ends.
+/// Whether a postfix or a comparison is next: no whole expression ends before one.
 #[tactic(auto, using(crate::proofs::ExpressionLooks::unfinished_seen))]
 pub fn at_unfinished(input: &ParseBuffer<'_>) -> bool
     ensures { result ≡ sees table.at_unfinished input.now }
@@ -105,7 +106,7 @@ pub fn at_unfinished(input: &ParseBuffer<'_>) -> bool
     at_postfix(input) || at_comparison(input)
 }
 
-/// Whether a postfix stands next.
+/// Whether a postfix is next.
 #[tactic(auto, using(syn_grammar::proofs::Looks::sees_or))]
 fn at_postfix(input: &ParseBuffer<'_>) -> bool
     ensures { result ≡ sees (table.at_paren or_else table.at_bracket or_else table.at_question or_else table.at_dot) input.now }
@@ -113,7 +114,7 @@ fn at_postfix(input: &ParseBuffer<'_>) -> bool
     input.peek::<Paren>() || input.peek::<Bracket>() || input.peek::<Question>() || at_dot(input)
 }
 
-/// Whether `==`, `!=` or a mark stands next that begins with `<` or `>`.
+/// Whether `==`, `!=` or a mark that begins with `<` or `>` is next.
 #[tactic(auto, using(syn_grammar::proofs::Looks::sees_or))]
 fn at_comparison(input: &ParseBuffer<'_>) -> bool
     ensures { result ≡ sees (grammar.at_mark equal_equal or_else grammar.at_mark not_equals or_else table.at_less or_else table.at_greater) input.now }

@@ -48,7 +48,7 @@ static WHERE: Form = Form::Token(Token::Word(Word::Where));
 
 static PARAMETERS: Form = Form::Ordered(List::Parameters);
 
-/// What stands before the list.
+/// The token before the list.
 fn head(part: Fading) -> &'static Form
     ensures { grammar_of result.now ≡ head_form part }
 {
@@ -75,7 +75,7 @@ fn list_of(part: Fading) -> Rule
     }
 }
 
-/// Whether what stands before the list stands next.
+/// Whether the token before the list is next.
 fn at_head(part: Fading, input: &ParseBuffer<'_>) -> bool
     ensures { result ≡ sees (fading_look part) input.now }
 {
@@ -88,7 +88,7 @@ fn at_head(part: Fading, input: &ParseBuffer<'_>) -> bool
     }
 }
 
-/// Reads what stands before the list, and writes nothing.
+/// Reads the token before the list, and writes nothing.
 fn skip_head(part: Fading, input: &mut ParseBuffer<'_>) -> Parsed<()>
     ensures { Skips IsSyntax (parse_form (head_form part) input.old) result input.new }
 {
@@ -117,7 +117,7 @@ fn skip_where(input: &mut ParseBuffer<'_>) -> Parsed<()>
     Ok(())
 }
 
-/// Whether a list that stands next has a member.
+/// Whether the list that is next has a member.
 fn begins_list(part: Fading, input: &ParseBuffer<'_>) -> bool
     ensures { result ≡ begins_list part input.now }
 {
@@ -130,7 +130,7 @@ fn begins_list(part: Fading, input: &ParseBuffer<'_>) -> bool
     }
 }
 
-/// Reads such a part, where it stands next.
+/// Reads such a part, if it is next.
 #[tactic(auto, using(crate::proofs::FadingParts::fading_absent, crate::proofs::FadingParts::fading_shown))]
 pub(crate) fn read_fading<'a>(
     part: Fading,
@@ -149,7 +149,7 @@ pub(crate) fn read_fading<'a>(
     read_whole(part, steps, out, input)
 }
 
-/// Reads what stands before the list, and the list.
+/// Reads the token before the list, and the list.
 #[tactic(auto, using(crate::proofs::Todo::push, crate::proofs::Copied::rule_is))]
 fn read_whole<'a>(
     part: Fading,
@@ -185,7 +185,7 @@ fn read_printed<'a>(
     Ok(())
 }
 
-/// Reads generics, where they stand next.
+/// Reads generics, if they are next.
 #[tactic(auto, using(crate::proofs::FadingParts::generics_absent, crate::proofs::FadingParts::generics_shown))]
 pub(crate) fn read_generics<'a>(
     steps: &mut Vec<Step<'a>>,
@@ -216,7 +216,7 @@ fn read_parameters<'a>(
     Ok(())
 }
 
-/// Reads generics, of which nothing is printed where they have no parameters.
+/// Reads generics; without parameters nothing of them is printed.
 #[tactic(auto, using(crate::proofs::FadingParts::generics_bare, crate::proofs::FadingParts::generics_kept, crate::proofs::FadingParts::generics_refused, crate::proofs::FadingParts::generics_open))]
 fn read_printed_generics<'a>(
     steps: &mut Vec<Step<'a>>,

@@ -1,4 +1,4 @@
-//! What is said of tokens that are refused, where a form has words of its own.
+//! Error messages of forms that have a text of their own.
 ghost use Rattle.syn_parse.specs.Refusals.{IsSyntax};
 
 use syn_parse::buffer::ParseBuffer;
@@ -7,20 +7,20 @@ use syn_parse::read::refusal::Refusal;
 /// Why a form isn't read.
 #[derive(Clone, Copy)]
 pub enum Fault {
-    /// Nothing may stand here.
+    /// Nothing is accepted here.
     Unexpected,
-    /// Something stands where a list of statements should end.
+    /// A list of statements doesn't end here.
     MissingEnd,
     /// A statement doesn't end.
     MissingSemi,
     /// A field without a name has a default.
     DefaultValue,
-    /// An expression stands behind `break`.
+    /// `break` has a value.
     BreakValue,
 }
 
 impl Fault {
-    /// The refusal of what stands next; of a default, what stands behind its `=`.
+    /// The refusal at the next token; of a default value, at the token after its `=`.
     pub(crate) fn refusal(self, input: &ParseBuffer<'_>) -> Refusal
         ensures { IsSyntax result }
     {

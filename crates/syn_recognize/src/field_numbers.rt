@@ -1,7 +1,7 @@
 //! The numbers of fields.
 ghost use Rattle.syn_recognize.specs.FieldNumbers.{IsFieldNumber};
 
-/// The number of a field that these digits write: they begin with no sign, and with no zero but `0` itself.
+/// The number of a field with these digits, which begin with no sign, and with no zero but `0` itself.
 #[tactic(auto, using(crate::proofs::Numbers::no_number))]
 pub fn field_number(text: &str) -> Option<u32>
     ensures { IsFieldNumber text.now result }

@@ -16,15 +16,15 @@ use syn_tokens::delimiter::Delimiter;
 #[derive(Clone, Copy)]
 pub enum Form {
     Empty,
-    /// Never read, for this reason.
+    /// Never read; refused for this reason.
     Never(Fault),
     Token(Token),
-    /// A token at a place where another form could stand in Rust.
+    /// A token at a place where Rust accepts another form too.
     TokenAt(Token, Place),
     Mark(Mark),
     /// A mark at such a place.
     MarkAt(Mark, Place),
-    /// A mark, refused for this reason where it doesn't stand.
+    /// A mark, refused for this reason where another token is next.
     MarkElse(Mark, Fault),
     Lifetime,
     Then(&'static Form, &'static Form),
@@ -38,19 +38,19 @@ pub enum Form {
     Unshown,
     /// A list in `< >`.
     Ordered(List),
-    /// Parameters in `< >`, where `<` stands next; not printed where there are none.
+    /// Parameters in `< >`, if `<` is next; not printed where there are none.
     Generics,
     /// A part that isn't printed where its list is empty.
     Fading(Fading),
-    /// A part that is never printed, where the look holds.
+    /// A part that is never printed, if the lookahead holds.
     Hidden(&'static Look, &'static Form),
-    /// A part that is kept as the tokens that it is read of.
+    /// A part whose tokens are copied unchanged.
     Captured(&'static Form),
-    /// One of several rules that begin alike: read by a plan.
+    /// One of several rules with a common beginning, which a plan reads.
     Planned(Planned),
     /// A union of this rule alone.
     Only(Rule),
-    /// A pattern, a colon and what stands behind them; where a name stands before `<`, this alone, and `_ :` before it counts as read.
+    /// A pattern, a colon and what follows them; where a name is before `<`, only what follows, with an implied `_ :` before it.
     Supplied(Nameless),
     /// A whole expression, and what follows it: the first form where its last token tree is a group in braces, else the second.
     ByBraces(&'static Form, &'static Form),

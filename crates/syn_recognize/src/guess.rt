@@ -1,19 +1,19 @@
-//! What is guessed of what a plan reads, before it is read.
+//! What is guessed of a plan before it is read.
 ghost use Rattle.std.specs.Prelude.{◌≡◌, true, None};
 
-/// What is guessed of it, and where it is noted how it is.
+/// A guess, and the number under which the truth is noted.
 #[derive(Clone, Copy)]
 pub struct Guess {
-    /// It is kept as tokens.
+    /// The tokens are stored verbatim.
     pub kept: bool,
     /// Of an impl's generics without parameters: whether they are printed as `< >`. None where nothing depends on it.
     pub leads: Option<bool>,
-    /// Its number among the plans of which it is noted how they are.
+    /// Its number among the plans of which notes are taken.
     pub number: Option<usize>,
 }
 
 impl Guess {
-    /// It is kept as tokens, and nothing is noted of it.
+    /// The tokens are stored verbatim, and nothing is noted.
     pub(crate) fn kept() -> Guess
         ensures { result.kept ≡ true }
     {

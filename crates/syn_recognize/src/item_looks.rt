@@ -1,4 +1,4 @@
-//! Conditions on what stands next in items.
+//! Lookaheads in items.
 ghost use Rattle.std.specs.Prelude.{◌≡◌, codes};
 ghost use Rattle.syn_grammar.specs.Grammar.{at_unnamed};
 ghost use Rattle.syn_grammar.specs.Promises.{OrMemory};
@@ -29,7 +29,7 @@ use syn_tokens::token::{
     Try, Type, Union, Unsafe, Use, kind,
 };
 
-/// Whether an item stands next in a block, behind its attributes. Refused only where memory is.
+/// Whether an item is next in a block, after its attributes. Refused only where memory is.
 #[tactic(auto, using(crate::proofs::ItemLooks::item_seen))]
 pub fn at_item(input: &ParseBuffer<'_>) -> Parsed<bool>
     ensures { OrMemory IsSyntax result (λ answer. answer ≡ sees table.at_item input.now) }
@@ -46,7 +46,7 @@ pub fn at_item(input: &ParseBuffer<'_>) -> Parsed<bool>
     at_named_macro(input)
 }
 
-/// Whether a word stands next that always begins an item.
+/// Whether the next token is a word that always begins an item.
 #[tactic(auto, using(syn_grammar::proofs::Looks::sees_or))]
 fn at_item_word(input: &ParseBuffer<'_>) -> bool
     ensures { result ≡ sees items.at_item_word input.now }
@@ -54,7 +54,7 @@ fn at_item_word(input: &ParseBuffer<'_>) -> bool
     at_first_item_word(input) || at_other_item_word(input)
 }
 
-/// Whether `pub`, `extern`, `use`, `fn` or `mod` stands next.
+/// Whether the next token is `pub`, `extern`, `use`, `fn` or `mod`.
 #[tactic(auto, using(syn_grammar::proofs::Looks::sees_or))]
 fn at_first_item_word(input: &ParseBuffer<'_>) -> bool
     ensures { result ≡ sees items.at_first_item_word input.now }
@@ -66,7 +66,7 @@ fn at_first_item_word(input: &ParseBuffer<'_>) -> bool
         || input.peek::<Mod>()
 }
 
-/// Whether `type`, `struct`, `enum`, `trait`, `impl` or `macro` stands next.
+/// Whether the next token is `type`, `struct`, `enum`, `trait`, `impl` or `macro`.
 #[tactic(auto, using(syn_grammar::proofs::Looks::sees_or))]
 fn at_other_item_word(input: &ParseBuffer<'_>) -> bool
     ensures { result ≡ sees items.at_other_item_word input.now }
@@ -79,7 +79,7 @@ fn at_other_item_word(input: &ParseBuffer<'_>) -> bool
         || input.peek::<Macro>()
 }
 
-/// Whether a word stands next that begins an item by what follows it.
+/// Whether the next token is a word that begins an item depending on the tokens after it.
 #[tactic(auto, using(syn_grammar::proofs::Looks::sees_or))]
 fn at_marked_word(input: &ParseBuffer<'_>) -> bool
     ensures { result ≡ sees items.at_marked_word input.now }
@@ -93,7 +93,7 @@ fn at_marked_word(input: &ParseBuffer<'_>) -> bool
         || at_default_item(input)
 }
 
-/// What an expression begins with behind `const`.
+/// What begins an expression after `const`.
 struct ConstExpression;
 
 impl Peek for ConstExpression {
@@ -110,7 +110,7 @@ impl Peek for ConstExpression {
     }
 }
 
-/// Whether what an expression begins with behind `const` stands next.
+/// Whether the next token begins an expression after `const`.
 #[tactic(auto, using(crate::proofs::ItemLooks::const_expression_seen))]
 fn at_const_expression(input: &ParseBuffer<'_>) -> bool
     ensures { result ≡ sees items.at_const_expression input.now }
@@ -122,7 +122,7 @@ fn at_const_expression(input: &ParseBuffer<'_>) -> bool
         || (input.peek::<Async>() && !at_async_item(input))
 }
 
-/// Whether `const` stands next, and what follows it begins no expression.
+/// Whether `const` is next, and the token after it begins no expression.
 #[tactic(auto, using(crate::proofs::ItemLooks::const_item_seen))]
 fn at_const_item(input: &ParseBuffer<'_>) -> bool
     ensures { result ≡ sees items.at_const_item input.now }
@@ -130,7 +130,7 @@ fn at_const_item(input: &ParseBuffer<'_>) -> bool
     input.peek::<Const>() && !input.peek2::<ConstExpression>()
 }
 
-/// Whether `unsafe` stands next, and no group in braces follows it.
+/// Whether `unsafe` is next, and no group in braces follows it.
 #[tactic(auto, using(crate::proofs::ItemLooks::unsafe_item_seen))]
 fn at_unsafe_item(input: &ParseBuffer<'_>) -> bool
     ensures { result ≡ sees items.at_unsafe_item input.now }
@@ -138,7 +138,7 @@ fn at_unsafe_item(input: &ParseBuffer<'_>) -> bool
     input.peek::<Unsafe>() && !input.peek2::<Brace>()
 }
 
-/// Whether `static` stands next, and `mut` or a name behind it.
+/// Whether `static` is next, followed by `mut` or a name.
 #[tactic(auto, using(crate::proofs::ItemLooks::static_item_seen))]
 fn at_static_item(input: &ParseBuffer<'_>) -> bool
     ensures { result ≡ sees items.at_static_item input.now }
@@ -146,7 +146,7 @@ fn at_static_item(input: &ParseBuffer<'_>) -> bool
     input.peek::<Static>() && (input.peek2::<Mut>() || input.peek2::<Ident>())
 }
 
-/// Whether `async` stands next, and `unsafe`, `extern` or `fn` behind it.
+/// Whether `async` is next, followed by `unsafe`, `extern` or `fn`.
 #[tactic(auto, using(crate::proofs::ItemLooks::async_item_seen))]
 fn at_async_item(input: &ParseBuffer<'_>) -> bool
     ensures { result ≡ sees items.at_async_item input.now }
@@ -155,7 +155,7 @@ fn at_async_item(input: &ParseBuffer<'_>) -> bool
         && (input.peek2::<Unsafe>() || input.peek2::<Extern>() || input.peek2::<Fn>())
 }
 
-/// Whether `union` stands next, and a name behind it.
+/// Whether `union` is next, followed by a name.
 #[tactic(auto, using(crate::proofs::ItemLooks::union_seen))]
 pub fn at_union(input: &ParseBuffer<'_>) -> bool
     ensures { result ≡ sees (grammar.at_word w_union and_also ahead Begins_item) input.now }
@@ -163,7 +163,7 @@ pub fn at_union(input: &ParseBuffer<'_>) -> bool
     input.peek::<Union>() && input.peek2::<Ident>()
 }
 
-/// Whether `auto` stands next, and `trait` behind it.
+/// Whether `auto` is next, followed by `trait`.
 #[tactic(auto, using(crate::proofs::ItemLooks::auto_seen))]
 pub fn at_auto(input: &ParseBuffer<'_>) -> bool
     ensures { result ≡ sees (grammar.at_word w_auto and_also ahead Begins_item) input.now }
@@ -171,7 +171,7 @@ pub fn at_auto(input: &ParseBuffer<'_>) -> bool
     input.peek::<Auto>() && input.peek2::<Trait>()
 }
 
-/// Whether `default` stands next, and `unsafe` or `impl` behind it.
+/// Whether `default` is next, followed by `unsafe` or `impl`.
 #[tactic(auto, using(crate::proofs::ItemLooks::default_item_seen))]
 fn at_default_item(input: &ParseBuffer<'_>) -> bool
     ensures { result ≡ sees items.at_default_item input.now }
@@ -179,7 +179,7 @@ fn at_default_item(input: &ParseBuffer<'_>) -> bool
     input.peek::<Default>() && (input.peek2::<Unsafe>() || input.peek2::<Impl>())
 }
 
-/// Whether `crate` stands next that no `::` follows, and not as the whole path of a macro with a group in braces.
+/// Whether `crate` is next without `::` after it, and is not the whole path of a macro with a group in braces.
 #[tactic(auto, using(crate::proofs::ItemLooks::crate_item_seen))]
 fn at_crate_item(input: &ParseBuffer<'_>) -> bool
     ensures { result ≡ sees items.at_crate_item input.now }
@@ -204,7 +204,7 @@ impl Peek for MacroName {
     }
 }
 
-/// Whether an identifier that is no keyword, or `try`, stands next.
+/// Whether the next token is an identifier that is no keyword, or `try`.
 #[tactic(auto, using(syn_grammar::proofs::Looks::sees_or))]
 pub fn at_macro_name(input: &ParseBuffer<'_>) -> bool
     ensures { result ≡ sees table.at_macro_name input.now }
@@ -212,7 +212,7 @@ pub fn at_macro_name(input: &ParseBuffer<'_>) -> bool
     input.peek::<Ident>() || input.peek::<Try>()
 }
 
-/// Whether a macro with a name stands next. Refused only where memory is.
+/// Whether a macro with a name is next. Refused only where memory is.
 fn at_named_macro(input: &ParseBuffer<'_>) -> Parsed<bool>
     ensures { OrMemory IsSyntax result (λ answer. answer ≡ sees items.at_named_macro input.now) }
 {
@@ -239,7 +239,7 @@ impl Peek for OwnSelf {
     }
 }
 
-/// Whether `self` stands next, and `::` doesn't follow it.
+/// Whether `self` is next, without `::` after it.
 #[tactic(auto, using(crate::proofs::ItemLooks::own_self_seen))]
 fn at_own_self(input: &ParseBuffer<'_>) -> bool
     ensures { result ≡ sees table.at_own_self input.now }
@@ -247,7 +247,7 @@ fn at_own_self(input: &ParseBuffer<'_>) -> bool
     input.peek::<SelfValue>() && !input.peek2::<PathSep>()
 }
 
-/// Whether a receiver stands next.
+/// Whether a receiver is next.
 #[tactic(auto, using(crate::proofs::ItemLooks::receiver_seen))]
 pub fn at_receiver(input: &ParseBuffer<'_>) -> bool
     ensures { result ≡ sees table.at_receiver input.now }
@@ -255,7 +255,7 @@ pub fn at_receiver(input: &ParseBuffer<'_>) -> bool
     input.peek::<And>() || (input.peek::<Mut>() && input.peek2::<OwnSelf>()) || at_own_self(input)
 }
 
-/// Whether a name stands next that begins a type, as `<` follows it, where a parameter may have none.
+/// Whether the next token is a name that begins a type, as `<` follows it, where the parameter's name may be left out.
 #[tactic(auto, using(crate::proofs::ItemLooks::unnamed_seen))]
 pub fn at_unnamed(input: &ParseBuffer<'_>) -> bool
     ensures { result ≡ sees (at_unnamed Before_less) input.now }
@@ -263,7 +263,7 @@ pub fn at_unnamed(input: &ParseBuffer<'_>) -> bool
     input.peek::<Ident>() && input.peek2::<Lt>()
 }
 
-/// A parameter of generics, or the `>` where there is none.
+/// A generic parameter, or the `>` of an empty list.
 struct FirstParameter;
 
 impl Peek for FirstParameter {
@@ -280,7 +280,7 @@ impl Peek for FirstParameter {
     }
 }
 
-/// Whether a parameter of generics, or the `>` where there is none, stands next.
+/// Whether a generic parameter, or the `>` of an empty list, is next.
 #[tactic(auto, using(syn_grammar::proofs::Looks::sees_or))]
 fn at_first_parameter(input: &ParseBuffer<'_>) -> bool
     ensures { result ≡ sees items.at_first_parameter input.now }
@@ -288,7 +288,7 @@ fn at_first_parameter(input: &ParseBuffer<'_>) -> bool
     input.peek::<Gt>() || at_parameter(input)
 }
 
-/// Whether generics stand next where a type may stand too.
+/// Whether generics are next, where a type may be too.
 #[tactic(auto, using(crate::proofs::ParameterLooks::generics_seen))]
 pub fn at_generics(input: &ParseBuffer<'_>) -> bool
     ensures { result ≡ sees grammar.at_generics input.now }
@@ -296,7 +296,7 @@ pub fn at_generics(input: &ParseBuffer<'_>) -> bool
     input.peek::<Lt>() && input.peek2::<FirstParameter>()
 }
 
-/// What a type goes on with behind an identifier.
+/// The tokens that continue a type after an identifier.
 struct TypeRest;
 
 impl Peek for TypeRest {
@@ -313,7 +313,7 @@ impl Peek for TypeRest {
     }
 }
 
-/// Whether what a type goes on with behind an identifier stands next: `::`, `<` and not `<=`, a group in parentheses, or `as`.
+/// Whether the next token continues a type after an identifier: `::`, `<` and not `<=`, a group in parentheses, or `as`.
 #[tactic(auto, using(syn_grammar::proofs::Looks::sees_or))]
 fn at_type_rest(input: &ParseBuffer<'_>) -> bool
     ensures { result ≡ sees items.at_type_rest input.now }
@@ -321,7 +321,7 @@ fn at_type_rest(input: &ParseBuffer<'_>) -> bool
     input.peek::<PathSep>() || at_less_only(input) || input.peek::<Paren>() || input.peek::<As>()
 }
 
-/// Whether a parameter of generics stands next: `#`, a lifetime, `const`, or an identifier that no type goes on from.
+/// Whether a generic parameter is next: `#`, a lifetime, `const`, or an identifier after which no type continues.
 #[tactic(auto, using(crate::proofs::ParameterLooks::parameter_seen))]
 fn at_parameter(input: &ParseBuffer<'_>) -> bool
     ensures { result ≡ sees grammar.at_parameter input.now }
@@ -332,7 +332,7 @@ fn at_parameter(input: &ParseBuffer<'_>) -> bool
         || (input.peek::<Ident>() && !input.peek2::<TypeRest>())
 }
 
-/// Whether a path stands next by which a macro is no item.
+/// Whether a path is next that the macro of an item may not have.
 #[tactic(auto, using(crate::proofs::ItemLooks::no_macro_item_seen))]
 pub fn at_no_macro_item(input: &ParseBuffer<'_>) -> bool
     ensures { result ≡ sees table.at_no_macro_item input.now }
@@ -340,7 +340,7 @@ pub fn at_no_macro_item(input: &ParseBuffer<'_>) -> bool
     input.peek::<SelfType>() || (input.peek::<Default>() && input.peek2::<PathSep>())
 }
 
-/// Whether a string stands next. Refused only where memory is.
+/// Whether a string is next. Refused only where memory is.
 #[tactic(auto, using(crate::proofs::Strings::string_seen, crate::proofs::Strings::no_string_seen))]
 pub fn at_str(input: &ParseBuffer<'_>) -> Parsed<bool>
     ensures { OrMemory IsSyntax result (λ answer. answer ≡ sees (grammar.at_literal Str) input.now) }
@@ -367,7 +367,7 @@ pub(crate) fn is_string(literal: &Literal) -> bool
     }
 }
 
-/// Whether a word of a path stands next, and `::` behind it.
+/// Whether a path segment is next, followed by `::`.
 #[tactic(auto, using(crate::proofs::MacroLooks::before_colons_seen))]
 pub fn is_before_colons(input: &ParseBuffer<'_>) -> bool
     ensures { result ≡ sees (ahead Before_colons) input.now }
@@ -375,7 +375,7 @@ pub fn is_before_colons(input: &ParseBuffer<'_>) -> bool
     at_path_word(input) && input.peek2::<PathSep>()
 }
 
-/// Whether the path of a macro stands next, or its rest behind a `:`. Refused only where memory is.
+/// Whether the path of a macro is next, or its rest after a `:`. Refused only where memory is.
 pub fn is_before_macro(input: &ParseBuffer<'_>) -> Parsed<bool>
     ensures { OrMemory IsSyntax result (λ answer. answer ≡ sees (ahead Before_macro) input.now) }
 {
@@ -390,7 +390,7 @@ pub fn is_before_macro(input: &ParseBuffer<'_>) -> Parsed<bool>
     at_macro(&behind)
 }
 
-/// Whether parentheses stand next that begin with `in`.
+/// Whether the next token is a group in parentheses that begins with `in`.
 #[tactic(auto, using(crate::proofs::Restricted::in_restriction_seen))]
 pub fn at_in_restriction(input: &ParseBuffer<'_>) -> bool
     ensures { result ≡ sees plan.at_in_restriction input.now }
@@ -401,7 +401,7 @@ pub fn at_in_restriction(input: &ParseBuffer<'_>) -> bool
     }
 }
 
-/// Whether parentheses stand next that hold `crate`, `self` or `super` alone.
+/// Whether the next token is a group in parentheses that holds only `crate`, `self` or `super`.
 #[tactic(auto, using(crate::proofs::Restricted::lone_word_seen))]
 pub fn at_lone_word(input: &ParseBuffer<'_>) -> bool
     ensures { result ≡ sees plan.at_lone_word input.now }

@@ -1,4 +1,4 @@
-//! Members that stand behind some other member of a list in `< >`, and are printed before it.
+//! Members that follow some other member of a list in `< >`, and are printed before it.
 ghost use Rattle.std.specs.Prelude.{◌≡◌, ◌↔◌, ◌∷◌, [], map, IsTrue, MatchOption};
 ghost use Rattle.syn_tokens.specs.Spans.{at};
 ghost use Rattle.syn_recognize.specs.Late.{guess_of};
@@ -9,14 +9,14 @@ use std::marker::Model;
 use syn_tokens::span::Span;
 use syn_tokens::stream::TokenStream;
 
-/// Such a member, as it is printed, and where the comma behind it stands; 0 to 0 where there is none.
+/// Such a member, as it is printed, and the span of the comma after it; 0 to 0 where there is none.
 #[derive(Drop)]
 pub struct Late {
     pub tokens: TokenStream,
     pub comma: Span,
 }
 
-/// Those that are expected in what is left of a list.
+/// The late members that are expected in the rest of a list.
 #[derive(Drop)]
 pub struct Guesses {
     members: VecDeque<Late>,
@@ -35,7 +35,7 @@ impl Model for Guesses {
 }
 
 impl Guesses {
-    /// These.
+    /// Expects these.
     pub(crate) fn of(noted: Vec<Late>) -> Guesses
         ensures { result ≡ map guess_of noted.items }
     {
@@ -44,14 +44,14 @@ impl Guesses {
         }
     }
 
-    /// The next one, which is taken away; none where there is none.
+    /// Takes the next one; none where there is none.
     pub(crate) fn next(&mut self) -> Option<Late>
         ensures { MatchOption result ((self.old ≡ []) × (self.new ≡ [])) (λ late. self.old ≡ guess_of late ∷ self.new) }
     {
         self.members.pop_front()
     }
 
-    /// Whether there is none.
+    /// Whether none is expected any more.
     pub(crate) fn is_empty(&self) -> bool
         ensures { IsTrue result ↔ (self.now ≡ []) }
     {
@@ -60,7 +60,7 @@ impl Guesses {
 }
 
 impl Late {
-    /// Whether it is this member, spans too, with the comma there.
+    /// Whether it is this member, with this comma, spans included.
     pub(crate) fn is(&self, tokens: &TokenStream, comma: Span) -> bool
         ensures { IsTrue result → guess_of self.now ≡ (tokens.now, at comma) }
     {

@@ -1,4 +1,4 @@
-//! Forms of Rust that the grammar leaves out: how each begins at its place, and what is said where it stands.
+//! Rust forms that the grammar leaves out: how each begins, and its error message.
 use syn_parse::buffer::ParseBuffer;
 use syn_tokens::ident::Ident;
 use syn_tokens::literal::Literal;
@@ -8,7 +8,7 @@ use syn_tokens::token::{
     Underscore, Unsafe, Use, Yield,
 };
 
-/// Where another form could stand in Rust than the one that is read.
+/// Where Rust accepts another form than the one that is read.
 #[derive(Clone, Copy)]
 pub enum Place {
     /// An expression begins.
@@ -17,14 +17,14 @@ pub enum Place {
     Type,
     /// A pattern begins.
     Pattern,
-    /// Behind the dot of a member.
+    /// After the dot of a member.
     Member,
-    /// Behind a whole expression, type or pattern.
+    /// After a whole expression, type or pattern.
     Behind,
 }
 
 impl Place {
-    /// What is said of what stands next, where a form that is left out begins here.
+    /// The error message, where a form that is left out begins at the next token.
     pub(crate) fn left_out(self, input: &ParseBuffer<'_>) -> Option<&'static str> {
         match self {
             Place::Expression => expression(input),
@@ -86,7 +86,7 @@ fn type_or_bound(input: &ParseBuffer<'_>) -> Option<&'static str> {
     }
 }
 
-/// Whether a keyword stands next that a function type begins with.
+/// Whether the next token is a keyword that begins a function type.
 fn at_function_type(input: &ParseBuffer<'_>) -> bool {
     input.peek::<Fn>() || input.peek::<Unsafe>() || input.peek::<Extern>() || input.peek::<For>()
 }
@@ -110,7 +110,7 @@ fn pattern(input: &ParseBuffer<'_>) -> Option<&'static str> {
     }
 }
 
-/// Whether a literal stands next, perhaps behind a sign.
+/// Whether a literal is next, perhaps after a sign.
 fn at_literal_pattern(input: &ParseBuffer<'_>) -> bool {
     input.peek::<Literal>()
         || input.peek::<True>()
@@ -118,7 +118,7 @@ fn at_literal_pattern(input: &ParseBuffer<'_>) -> bool {
         || input.peek::<Minus>()
 }
 
-/// What is no field and no method. Where a literal stands and no integer, it is taken for a number with a dot.
+/// Neither a field nor a method. A literal that is no integer is taken for a number with a dot.
 fn member(input: &ParseBuffer<'_>) -> Option<&'static str> {
     if input.peek::<Await>() {
         Some("`.await` is not read here")
@@ -129,7 +129,7 @@ fn member(input: &ParseBuffer<'_>) -> Option<&'static str> {
     }
 }
 
-/// What could go on with an expression, a type or a pattern.
+/// A continuation of an expression, a type or a pattern that is left out.
 fn behind(input: &ParseBuffer<'_>) -> Option<&'static str> {
     if input.peek::<DotDot>() {
         Some("ranges are not read here")
@@ -148,18 +148,18 @@ fn behind(input: &ParseBuffer<'_>) -> Option<&'static str> {
     }
 }
 
-/// Whether `!` stands next, and a group behind it.
+/// Whether `!` is next, followed by a group.
 fn at_macro(input: &ParseBuffer<'_>) -> bool {
     input.peek::<Not>()
         && (input.peek2::<Paren>() || input.peek2::<Bracket>() || input.peek2::<Brace>())
 }
 
-/// Whether `const` or `mut` stands next with an operand behind it, as behind `&raw`, and no item.
+/// Whether `const` or `mut` is next as in a raw reference: an operand follows, and no item begins here.
 fn at_raw(input: &ParseBuffer<'_>) -> bool {
     (input.peek::<Const>() || input.peek::<Mut>()) && at_operand2(input) && !input.peek3::<Colon>()
 }
 
-/// Whether what stands next but one may begin the operand of a raw reference.
+/// Whether the second token may begin the operand of a raw reference.
 fn at_operand2(input: &ParseBuffer<'_>) -> bool {
     input.peek2::<Ident>()
         || input.peek2::<SelfValue>()

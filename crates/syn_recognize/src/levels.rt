@@ -1,4 +1,4 @@
-//! Levels of operators. Behind an operand one look tells which of them may go on with it, so that the others cost no step.
+//! Levels of operators. After an operand one lookahead decides which of them may continue it, so that the others cost no step.
 ghost use Rattle.std.specs.Prelude.{◌≡◌, ◌≤◌, false, MatchOption};
 ghost use Rattle.syn_grammar.specs.Rules.{assigned, compared, unary, unary_head};
 ghost use Rattle.syn_grammar.specs.Run.{parse_form};
@@ -15,14 +15,14 @@ use crate::rules::{Rule, form_of};
 use syn_parse::buffer::first::First;
 use syn_tokens::delimiter::Delimiter;
 
-/// Nothing stands next that would go on with an expression.
+/// No continuation of an expression is next.
 static FINISHED: Form = Form::When(
     Look::Unfinished,
     &Form::Never(Fault::Unexpected),
     &Form::Empty,
 );
 
-/// How many levels the rule reads behind a unary one; none where it reads something else.
+/// How many levels the rule reads after a unary one; none where it reads something else.
 #[tactic(auto, using(crate::proofs::Ladder::cast_rung, crate::proofs::Ladder::product_rung, crate::proofs::Ladder::sum_rung, crate::proofs::Ladder::shift_rung, crate::proofs::Ladder::bit_and_rung, crate::proofs::Ladder::bit_xor_rung, crate::proofs::Ladder::bit_or_rung, crate::proofs::Ladder::comparison_rung, crate::proofs::Ladder::conjunction_rung, crate::proofs::Ladder::disjunction_rung, crate::proofs::Ladder::whole_rung), unfolding(crate::specs::Names::rule_of))]
 pub(crate) fn height_of(rule: Rule) -> Option<usize>
     ensures { MatchOption result (Unit {0}) (λ height. Rung unary 0 (rule_of rule) height) }
@@ -43,7 +43,7 @@ pub(crate) fn height_of(rule: Rule) -> Option<usize>
     }
 }
 
-/// The same of the rules of heads, of which the levels stand behind the others.
+/// The same for the rules of heads; their levels are numbered after the others.
 #[tactic(auto, using(crate::proofs::Ladder::cast_head_rung, crate::proofs::Ladder::product_head_rung, crate::proofs::Ladder::sum_head_rung, crate::proofs::Ladder::shift_head_rung, crate::proofs::Ladder::bit_and_head_rung, crate::proofs::Ladder::bit_xor_head_rung, crate::proofs::Ladder::bit_or_head_rung, crate::proofs::Ladder::comparison_head_rung, crate::proofs::Ladder::conjunction_head_rung, crate::proofs::Ladder::disjunction_head_rung, crate::proofs::Ladder::whole_head_rung), unfolding(crate::specs::Names::rule_of))]
 pub(crate) fn head_height_of(rule: Rule) -> Option<usize>
     ensures rung { MatchOption result (Unit {0}) (λ height. Rung unary_head 12 (rule_of rule) height) }
@@ -65,7 +65,7 @@ pub(crate) fn head_height_of(rule: Rule) -> Option<usize>
     }
 }
 
-/// What the level of this number reads behind an operand.
+/// The form that this level reads after an operand.
 #[tactic(auto, unfolding(crate::specs::Names::rule_of, crate::specs::Ladder::level_form))]
 pub(crate) fn behind(level: usize) -> Option<&'static Form>
     ensures { MatchOption result (Unit {0}) (λ form. parse_form (grammar_of form.now) ≡ parse_form (level_form level)) }
@@ -99,8 +99,7 @@ pub(crate) fn behind(level: usize) -> Option<&'static Form>
     }
 }
 
-/// The first of the levels from one number on that may read something where this stands next; where none does, the number up to which
-/// they go.
+/// The first level in this range that may match the next token; the end of the range where none does.
 #[tactic(auto, using(crate::proofs::Ladder::passes_none, crate::proofs::Ladder::passes_more, crate::proofs::Ladder::passes_all, crate::proofs::Ladder::passes_ended))]
 pub(crate) fn first_level(from: usize, to: usize, next: First) -> usize
     ensures { Passes from to result next }
@@ -116,7 +115,7 @@ pub(crate) fn first_level(from: usize, to: usize, next: First) -> usize
     to
 }
 
-/// Whether it is clear at once that no level reads anything where this stands next.
+/// Whether this next token alone rules out every level.
 fn ends(next: First) -> bool
     ensures { result ≡ ends next }
 {
@@ -142,7 +141,7 @@ fn is_brace(delimiter: Delimiter) -> bool
     }
 }
 
-/// Whether the level may read something where this stands next.
+/// Whether the level may match this next token.
 #[tactic(auto, unfolding(crate::specs::Ladder::level_form))]
 fn may_read(level: usize, next: First) -> bool
     ensures { result ≡ false → loud (level_form level) next ≡ false }
@@ -186,14 +185,14 @@ fn may_read_in_head(level: usize, next: First) -> bool
     }
 }
 
-/// Whether a comparison may stand next.
+/// Whether the next token may begin a comparison.
 fn may_compare(next: First) -> bool
     ensures { result ≡ loud (table compared) next }
 {
     is_mark('=', next) || is_mark('!', next) || is_mark('<', next) || is_mark('>', next)
 }
 
-/// Whether an assignment may stand next.
+/// Whether the next token may begin an assignment.
 fn may_assign(next: First) -> bool
     ensures { result ≡ loud (table assigned) next }
 {

@@ -1,4 +1,5 @@
-//! Reads past what a rule of the grammar reads, and writes its tokens, without building a tree; and trees that are kept as their tokens.
+//! Recognizes what a rule of the grammar reads, and writes its tokens, without building a tree. Also has trees that are stored as their
+//! tokens.
 #![tactic(auto)]
 
 mod aside;

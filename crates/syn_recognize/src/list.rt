@@ -53,7 +53,7 @@ pub(crate) fn other_of(list: List) -> &'static Form
     }
 }
 
-/// Whether a member that stands next is one that is printed first. Refused only where memory is.
+/// Whether the next member is one that is printed first. Refused only where memory is.
 #[tactic(auto, using(crate::proofs::Ordered::arguments_told, crate::proofs::Ordered::parameters_told))]
 pub(crate) fn at_first(list: List, input: &ParseBuffer<'_>) -> Parsed<bool>
     ensures { OrMemory IsSyntax result (λ answer. Tells list input.now answer) }
@@ -64,7 +64,7 @@ pub(crate) fn at_first(list: List, input: &ParseBuffer<'_>) -> Parsed<bool>
     }
 }
 
-/// Whether a lifetime stands behind the attributes that stand next.
+/// Whether a lifetime follows the attributes that are next.
 fn at_lifetime_parameter(input: &ParseBuffer<'_>) -> Parsed<bool>
     ensures { OrMemory IsSyntax result (λ answer. LeadsTo (parse_rule attributes input.now) answer) }
 {

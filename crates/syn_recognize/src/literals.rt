@@ -1,5 +1,5 @@
-//! Trees that are a literal alone, as most values in items are: they are known as such by the token behind the literal, and
-//! copied without the rules.
+//! Trees that are a single literal, as most values in items are: the token after the literal decides this, and the literal is copied
+//! without the rules.
 ghost use Rattle.std.specs.Prelude.{◌≡◌};
 ghost use Rattle.syn_grammar.specs.Tokens.{leaf, end};
 ghost use Rattle.syn_grammar.specs.Promises.{OrMemory, Takes};
@@ -18,7 +18,7 @@ use syn_tokens::stream::TokenStream;
 use syn_tokens::stream::tree::TokenTree;
 use syn_tokens::token::{Comma, Semi};
 
-/// Whether a literal stands next that is the whole tree: any constant is, and an expression before a comma, a semicolon or the end.
+/// Whether a literal is next that is the whole tree: any constant is, and an expression before a comma, a semicolon or the end.
 #[tactic(auto, unfolding(crate::specs::LoneLiterals::is_lone_literal))]
 pub(crate) fn is_lone_literal(kind: usize, input: &ParseBuffer<'_>) -> bool
     ensures { result ≡ is_lone_literal kind input.now }
@@ -26,7 +26,7 @@ pub(crate) fn is_lone_literal(kind: usize, input: &ParseBuffer<'_>) -> bool
     input.peek::<Literal>() && is_over(kind, input)
 }
 
-/// Whether such a tree is over behind the next token.
+/// Whether such a tree ends after the next token.
 fn is_over(kind: usize, input: &ParseBuffer<'_>) -> bool
     ensures { result ≡ is_over kind input.now }
 {

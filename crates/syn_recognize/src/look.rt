@@ -1,4 +1,4 @@
-//! Conditions on what stands next as data.
+//! Lookaheads as data.
 ghost use Rattle.std.specs.Prelude.{◌≡◌};
 ghost use Rattle.syn_grammar.specs.Promises.{OrMemory};
 ghost use Rattle.syn_grammar.specs.Tokens as grammar;
@@ -26,7 +26,7 @@ use syn_tokens::literal::Literal;
 use syn_tokens::token::{Brace, Comma, Eq, Gt, Semi, Where};
 use syn_tokens::{lifetime, token};
 
-/// A condition on what stands next.
+/// A lookahead: a condition on the next tokens.
 #[derive(Clone, Copy)]
 pub enum Look {
     Ended,
@@ -72,7 +72,7 @@ pub enum Look {
     LoneWord,
 }
 
-/// Whether a group with these delimiters stands next.
+/// Whether the next token is a group with these delimiters.
 fn at_group(delimiter: Delimiter, input: &ParseBuffer<'_>) -> bool
     ensures { result ≡ sees (grammar.at_group (delimiter_of delimiter)) input.now }
 {
@@ -84,7 +84,7 @@ fn at_group(delimiter: Delimiter, input: &ParseBuffer<'_>) -> bool
     }
 }
 
-/// Whether the look holds of what stands next. Refused only where memory is.
+/// Whether the lookahead holds. Refused only where memory is.
 #[tactic(auto, using(syn_grammar::proofs::Looks::sees_or, syn_grammar::proofs::Looks::sees_but))]
 pub(crate) fn holds(look: &Look, input: &ParseBuffer<'_>) -> Parsed<bool>
     ensures { OrMemory IsSyntax result (λ answer. answer ≡ sees (look_of look.now) input.now) }
@@ -134,7 +134,7 @@ pub(crate) fn holds(look: &Look, input: &ParseBuffer<'_>) -> Parsed<bool>
     }
 }
 
-/// Whether what ends the bounds of a parameter stands next: `,`, `>` or `=`.
+/// Whether the bounds of a parameter end here: the next token is `,`, `>` or `=`.
 #[tactic(auto, using(syn_grammar::proofs::Looks::sees_or))]
 pub(crate) fn at_parameter_end(input: &ParseBuffer<'_>) -> bool
     ensures { result ≡ sees table.at_parameter_end input.now }
@@ -142,7 +142,7 @@ pub(crate) fn at_parameter_end(input: &ParseBuffer<'_>) -> bool
     input.peek::<Comma>() || input.peek::<Gt>() || input.peek::<Eq>()
 }
 
-/// Whether what ends a where clause, or the bounds of its predicates, stands next: the end, a group in braces, `,`, `;`, `=` or a `:`
+/// Whether a where clause, or the bounds of its predicates, ends here: the next token is the end, a group in braces, `,`, `;`, `=` or a `:`
 /// that isn't `::`.
 #[tactic(auto, using(syn_grammar::proofs::Looks::sees_or))]
 pub(crate) fn at_predicate_end(input: &ParseBuffer<'_>) -> bool
@@ -156,7 +156,7 @@ pub(crate) fn at_predicate_end(input: &ParseBuffer<'_>) -> bool
         || at_lone_colon(input)
 }
 
-/// Whether what ends the bounds of a trait stands next: `where` or a group in braces.
+/// Whether the bounds of a trait end here: the next token is `where` or a group in braces.
 #[tactic(auto, using(syn_grammar::proofs::Looks::sees_or))]
 pub(crate) fn at_supertraits_end(input: &ParseBuffer<'_>) -> bool
     ensures { result ≡ sees table.at_supertraits_end input.now }
@@ -164,7 +164,7 @@ pub(crate) fn at_supertraits_end(input: &ParseBuffer<'_>) -> bool
     input.peek::<Where>() || input.peek::<Brace>()
 }
 
-/// Whether what ends the bounds of a type stands next: `where`, `=` or `;`.
+/// Whether the bounds of a type end here: the next token is `where`, `=` or `;`.
 #[tactic(auto, using(syn_grammar::proofs::Looks::sees_or))]
 pub(crate) fn at_type_bounds_end(input: &ParseBuffer<'_>) -> bool
     ensures { result ≡ sees table.at_type_bounds_end input.now }
@@ -172,7 +172,7 @@ pub(crate) fn at_type_bounds_end(input: &ParseBuffer<'_>) -> bool
     input.peek::<Where>() || input.peek::<Eq>() || input.peek::<Semi>()
 }
 
-/// Whether `:` stands next, and not `::`.
+/// Whether the next token is `:`, and not `::`.
 #[tactic(auto, using(syn_grammar::proofs::Looks::sees_but))]
 pub(crate) fn at_lone_colon(input: &ParseBuffer<'_>) -> bool
     ensures { result ≡ sees table.at_lone_colon input.now }
@@ -180,9 +180,9 @@ pub(crate) fn at_lone_colon(input: &ParseBuffer<'_>) -> bool
     input.peek::<token::Colon>() && !input.peek::<token::PathSep>()
 }
 
-// WHAT ONE LOOK TELLS
+// WHAT THE NEXT TOKEN ALONE DECIDES
 
-/// Whether this character of a mark stands next.
+/// Whether a mark with this first character is next.
 pub(crate) fn is_mark(character: char, next: First) -> bool
     ensures { result ≡ may.is_mark character next }
 {
@@ -196,7 +196,7 @@ pub(crate) fn is_mark(character: char, next: First) -> bool
     }
 }
 
-/// Whether a keyword stands next.
+/// Whether a keyword is next.
 pub(crate) fn is_keyword(next: First) -> bool
     ensures { result ≡ may.is_keyword next }
 {
@@ -210,7 +210,7 @@ pub(crate) fn is_keyword(next: First) -> bool
     }
 }
 
-/// Whether an identifier that is no keyword stands next.
+/// Whether an identifier that is no keyword is next.
 fn is_name(next: First) -> bool
     ensures { result ≡ may.is_name next }
 {
@@ -224,7 +224,7 @@ fn is_name(next: First) -> bool
     }
 }
 
-/// Whether a literal stands next.
+/// Whether a literal is next.
 fn is_literal(next: First) -> bool
     ensures { result ≡ may.is_literal next }
 {
@@ -238,7 +238,7 @@ fn is_literal(next: First) -> bool
     }
 }
 
-/// Whether nothing stands next.
+/// Whether the input ends here.
 fn is_ended(next: First) -> bool
     ensures { result ≡ may.is_ended next }
 {
@@ -252,7 +252,7 @@ fn is_ended(next: First) -> bool
     }
 }
 
-/// Whether a group with these delimiters stands next.
+/// Whether a group with these delimiters is next.
 pub(crate) fn is_group(delimiter: Delimiter, next: First) -> bool
     ensures { result ≡ may.is_group (delimiter_of delimiter) next }
 {
@@ -266,7 +266,7 @@ pub(crate) fn is_group(delimiter: Delimiter, next: First) -> bool
     }
 }
 
-/// Whether a group stands next.
+/// Whether a group is next.
 pub(crate) fn is_any_group(next: First) -> bool
     ensures { result ≡ may.is_any_group next }
 {
@@ -280,7 +280,7 @@ pub(crate) fn is_any_group(next: First) -> bool
     }
 }
 
-/// Whether a keyword stands next, where this word is one; else whether another name does.
+/// Whether a keyword is next, for a word that is one; else whether another name is.
 fn is_of_kind(word: Word, next: First) -> bool
     ensures { result ≡ may.is_word (one_of_texts (word_text word) keywords) next }
 {
@@ -291,14 +291,14 @@ fn is_of_kind(word: Word, next: First) -> bool
     }
 }
 
-/// Whether a mark stands next that begins as this one does.
+/// Whether a mark with the same first character is next.
 fn is_begun(mark: Mark, next: First) -> bool
     ensures { result ≡ may.is_mark (head_of (mark_text mark)) next }
 {
     is_mark(first_of(mark), next)
 }
 
-/// Whether the look may hold where this stands next: where not, nothing else has to be looked at.
+/// Whether the lookahead may hold before this token; if not, no other token has to be tested.
 fn may_hold(look: &Look, next: First) -> bool
     ensures { result ≡ may.may_hold look.now next }
 {
@@ -353,7 +353,7 @@ fn may_hold(look: &Look, next: First) -> bool
     }
 }
 
-/// Whether a postfix or a comparison may stand next.
+/// Whether the next token may begin a postfix or a comparison.
 pub(crate) fn may_go_on(next: First) -> bool
     ensures { result ≡ may.may_hold Unfinished next }
 {
@@ -367,7 +367,7 @@ pub(crate) fn may_go_on(next: First) -> bool
         || is_mark('>', next)
 }
 
-/// Whether what ends a where clause, or the bounds of its predicates, may stand next.
+/// Whether the next token may end a where clause, or the bounds of its predicates.
 fn may_end_predicate(next: First) -> bool
     ensures { result ≡ may.may_hold PredicateEnd next }
 {
@@ -379,7 +379,7 @@ fn may_end_predicate(next: First) -> bool
         || is_mark(':', next)
 }
 
-/// Whether one look tells of the condition all that there is to tell.
+/// Whether the next token alone decides this lookahead.
 fn tells(look: &Look) -> bool
     ensures { result ≡ may.tells look.now }
 {
@@ -428,7 +428,7 @@ fn tells(look: &Look) -> bool
     }
 }
 
-/// Whether the look holds of what stands next, which is this. Refused only where memory is.
+/// Whether the lookahead holds, where `next` is the next token. Refused only where memory is.
 #[tactic(auto, using(crate::proofs::May::look_not, crate::proofs::May::look_sure))]
 pub(crate) fn holds_next(look: &Look, next: First, input: &ParseBuffer<'_>) -> Parsed<bool>
     requires { Begins next input.now }

@@ -1,4 +1,4 @@
-//! Conditions on what stands next that no other conditions make up.
+//! Lookaheads that are not composed of others.
 ghost use Rattle.std.specs.Prelude.{◌≡◌, MatchOption, true, false, codes};
 ghost use Rattle.syn_grammar.specs.Promises.{OrMemory};
 ghost use Rattle.syn_grammar.specs.Take.{sees};
@@ -22,7 +22,7 @@ use syn_tokens::token::{
     Super, Union, kind,
 };
 
-/// Whether `#` stands next, and `!` behind it.
+/// Whether `#` is next, followed by `!`.
 #[tactic(auto, using(crate::proofs::InnerAttributes::inner_attribute_seen))]
 pub fn at_inner_attribute(input: &ParseBuffer<'_>) -> bool
     ensures { result ≡ sees table.at_inner_attribute input.now }
@@ -30,7 +30,7 @@ pub fn at_inner_attribute(input: &ParseBuffer<'_>) -> bool
     input.peek::<Pound>() && input.peek2::<Not>()
 }
 
-/// Whether `<` stands next, and not `<=`.
+/// Whether the next token is `<`, and not `<=`.
 #[tactic(auto, using(syn_grammar::proofs::Looks::sees_but))]
 pub(crate) fn at_less_only(input: &ParseBuffer<'_>) -> bool
     ensures { result ≡ sees table.at_less_only input.now }
@@ -38,7 +38,7 @@ pub(crate) fn at_less_only(input: &ParseBuffer<'_>) -> bool
     input.peek::<Lt>() && !input.peek::<Le>()
 }
 
-/// Whether arguments of a word in a type's path stand next: `<` and not `<=`, a group in parentheses, or `::` with `<` behind it.
+/// Whether the arguments of a segment of a type's path are next: `<` and not `<=`, a group in parentheses, or `::` followed by `<`.
 #[tactic(auto, using(crate::proofs::TypeLooks::arguments_seen))]
 pub fn at_arguments(input: &ParseBuffer<'_>) -> bool
     ensures { result ≡ sees table.at_arguments input.now }
@@ -46,7 +46,7 @@ pub fn at_arguments(input: &ParseBuffer<'_>) -> bool
     at_less_only(input) || input.peek::<Paren>() || (input.peek::<PathSep>() && input.peek3::<Lt>())
 }
 
-/// Whether an identifier stands next that is no keyword, and `=` behind it.
+/// Whether an identifier that is no keyword is next, followed by `=`.
 #[tactic(auto, using(crate::proofs::TypeLooks::association_seen))]
 pub fn at_association(input: &ParseBuffer<'_>) -> bool
     ensures { result ≡ sees table.at_association input.now }
@@ -54,7 +54,7 @@ pub fn at_association(input: &ParseBuffer<'_>) -> bool
     input.peek::<Ident>() && input.peek2::<Eq>()
 }
 
-/// Whether an integer stands next. Refused only where memory is.
+/// Whether an integer is next. Refused only where memory is.
 #[tactic(auto, using(crate::proofs::Integers::integer_seen, crate::proofs::Integers::no_literal_seen))]
 pub fn at_integer(input: &ParseBuffer<'_>) -> Parsed<bool>
     ensures { OrMemory IsSyntax result (λ answer. answer ≡ sees (grammar.at_literal Int) input.now) }
@@ -81,7 +81,7 @@ fn is_integer(literal: &Literal) -> bool
     }
 }
 
-/// Whether an identifier that is no keyword, `self`, `Self`, `super` or `crate` stands next.
+/// Whether the next token is an identifier that is no keyword, `self`, `Self`, `super` or `crate`.
 #[tactic(auto, using(syn_grammar::proofs::Looks::sees_or))]
 pub fn at_path_word(input: &ParseBuffer<'_>) -> bool
     ensures { result ≡ sees grammar.at_path_word input.now }
@@ -93,7 +93,7 @@ pub fn at_path_word(input: &ParseBuffer<'_>) -> bool
         || input.peek::<Crate>()
 }
 
-/// Whether parentheses stand next that hold `crate`, `self` or `super` alone, or begin with `in`.
+/// Whether the next token is a group in parentheses that holds only `crate`, `self` or `super`, or begins with `in`.
 #[tactic(auto, using(crate::proofs::Restricted::restriction_seen))]
 pub fn at_restriction(input: &ParseBuffer<'_>) -> bool
     ensures { result ≡ sees table.at_restriction input.now }
@@ -104,7 +104,7 @@ pub fn at_restriction(input: &ParseBuffer<'_>) -> bool
     }
 }
 
-/// Whether `crate`, `self` or `super` is all that is left.
+/// Whether only `crate`, `self` or `super` is left.
 pub(crate) fn is_lone_word(content: &ParseBuffer<'_>) -> bool
     ensures { result ≡ lone_word content.now }
 {
@@ -112,7 +112,7 @@ pub(crate) fn is_lone_word(content: &ParseBuffer<'_>) -> bool
         && content.peek2::<End>()
 }
 
-/// Whether an invisible group without content stands next, which stands for a visibility that isn't written.
+/// Whether the next token is an empty invisible group, which represents a visibility that isn't written.
 #[tactic(auto, using(crate::proofs::Restricted::empty_group_seen))]
 pub fn at_empty_group(input: &ParseBuffer<'_>) -> bool
     ensures { result ≡ sees grammar.at_empty_group input.now }
@@ -123,7 +123,7 @@ pub fn at_empty_group(input: &ParseBuffer<'_>) -> bool
     }
 }
 
-/// Whether `struct` stands next, or `union` with a group in braces behind it.
+/// Whether `struct` is next, or `union` followed by a group in braces.
 #[tactic(auto, using(crate::proofs::Nameless::nameless_seen))]
 pub fn at_nameless_fields(input: &ParseBuffer<'_>) -> bool
     ensures { result ≡ sees table.at_nameless_fields input.now }
@@ -148,7 +148,7 @@ impl Peek for Bang {
     }
 }
 
-/// Whether `!` stands next, and not `!=`.
+/// Whether the next token is `!`, and not `!=`.
 #[tactic(auto, using(syn_grammar::proofs::Looks::sees_but))]
 pub fn at_bang(input: &ParseBuffer<'_>) -> bool
     ensures { result ≡ sees table.at_bang input.now }
@@ -156,7 +156,7 @@ pub fn at_bang(input: &ParseBuffer<'_>) -> bool
     input.peek::<Not>() && !input.peek::<Ne>()
 }
 
-/// Whether arguments of a word in an expression's path stand next: `::`, and `<` behind it.
+/// Whether the arguments of a segment of an expression's path are next: `::` followed by `<`.
 #[tactic(auto, using(crate::proofs::PathLooks::turbofish_seen))]
 pub fn at_turbofish(input: &ParseBuffer<'_>) -> bool
     ensures { result ≡ sees table.at_turbofish input.now }
@@ -164,7 +164,7 @@ pub fn at_turbofish(input: &ParseBuffer<'_>) -> bool
     input.peek::<PathSep>() && input.peek3::<Lt>()
 }
 
-/// Whether `crate` stands next, and `::` doesn't follow it.
+/// Whether `crate` is next, without `::` after it.
 #[tactic(auto, using(crate::proofs::PathLooks::lone_crate_seen))]
 pub fn at_lone_crate(input: &ParseBuffer<'_>) -> bool
     ensures { result ≡ sees table.at_lone_crate input.now }
@@ -172,8 +172,8 @@ pub fn at_lone_crate(input: &ParseBuffer<'_>) -> bool
     input.peek::<Crate>() && !input.peek2::<PathSep>()
 }
 
-/// Whether a path stands next where a pattern may stand: `::`, `<`, `Self`, `super`, `crate`, `self` before `::`, or an identifier
-/// that is no keyword before `::` or a group in parentheses.
+/// Whether a path is next where a pattern is accepted: `::`, `<`, `Self`, `super`, `crate`, `self` before `::`, or an identifier that is no
+/// keyword before `::` or a group in parentheses.
 #[tactic(auto, using(crate::proofs::PathLooks::pattern_path_seen))]
 pub fn at_pattern_path(input: &ParseBuffer<'_>) -> bool
     ensures { result ≡ sees table.at_pattern_path input.now }
@@ -187,7 +187,7 @@ pub fn at_pattern_path(input: &ParseBuffer<'_>) -> bool
         || (input.peek::<Ident>() && (input.peek2::<PathSep>() || input.peek2::<Paren>()))
 }
 
-/// Whether a macro stands next: a path in module style, and a `!` that isn't `!=`. Refused only where memory is.
+/// Whether a macro is next: a path in module style, and a `!` that isn't `!=`. Refused only where memory is.
 pub fn at_macro(input: &ParseBuffer<'_>) -> Parsed<bool>
     ensures { OrMemory IsSyntax result (λ answer. answer ≡ sees table.at_macro input.now) }
 {
@@ -197,7 +197,7 @@ pub fn at_macro(input: &ParseBuffer<'_>) -> Parsed<bool>
     }
 }
 
-/// Whether a macro with a group in braces stands next. Refused only where memory is.
+/// Whether a macro with a group in braces is next. Refused only where memory is.
 pub fn at_brace_macro(input: &ParseBuffer<'_>) -> Parsed<bool>
     ensures { OrMemory IsSyntax result (λ answer. answer ≡ sees table.at_brace_macro input.now) }
 {
@@ -207,7 +207,7 @@ pub fn at_brace_macro(input: &ParseBuffer<'_>) -> Parsed<bool>
     }
 }
 
-/// Whether `crate` stands next as the whole path of a macro with a group in braces.
+/// Whether `crate` is next as the whole path of a macro with a group in braces.
 #[tactic(auto, using(crate::proofs::PathLooks::crate_macro_seen))]
 pub fn at_crate_macro(input: &ParseBuffer<'_>) -> bool
     ensures { result ≡ sees table.at_crate_macro input.now }
@@ -215,7 +215,7 @@ pub fn at_crate_macro(input: &ParseBuffer<'_>) -> bool
     at_lone_crate(input) && input.peek2::<Bang>() && input.peek3::<Brace>()
 }
 
-/// Where a macro stands next, what is left behind its path: its `!` and more.
+/// If a macro is next, the tokens after its path, from its `!` on.
 pub(crate) fn behind_path<'a>(input: &ParseBuffer<'a>) -> Parsed<Option<ParseBuffer<'a>>>
     ensures { OrMemory IsSyntax result (λ found. MatchOption found
         ((sees table.at_macro input.now ≡ false) × (sees table.at_brace_macro input.now ≡ false) × (sees at_named_macro input.now ≡ false))

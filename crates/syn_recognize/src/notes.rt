@@ -1,27 +1,27 @@
-//! What is noted of lists and plans by one reading, for those that write.
+//! Notes that one reading takes of lists and plans, for those that write.
 
 use crate::late::Late;
 use std::alloc::{AllocError, Global};
 use std::collections::VecDeque;
 
-/// How what a plan reads is written.
+/// How the tokens of a plan are written.
 #[derive(Clone, Copy)]
 pub(crate) struct PlanNote {
-    /// It is kept as tokens.
+    /// They are stored verbatim.
     pub(crate) kept: bool,
-    /// What stands behind the generics of its impl, or the self type, would be read as generics.
+    /// The tokens after the impl's generics, or its self type, would be read as generics.
     pub(crate) leads: bool,
-    /// How many lists were noted before it.
+    /// How many lists were noted before this plan.
     lists: usize,
 }
 
-/// What is noted, and what of it was used.
+/// The notes, and how many of them are used.
 #[derive(Drop)]
 pub struct Notes {
-    /// Of each list in `< >` that has some other member: the members behind its first other member that are printed first. The
-    /// lists stand in the order of these members. Printing takes them away from the front.
+    /// Of each list in `< >` with another member: the members after its first other member that are printed first. The lists are in the
+    /// order of these members. Printing takes them from the front.
     late: VecDeque<Vec<Late>>,
-    /// Of each plan, in the order of their beginnings; none of those that stand in one that is kept.
+    /// Of each plan, in the order of their beginnings; without those nested in a plan that is stored verbatim.
     plans: Vec<PlanNote>,
     /// How many plans were used.
     used: usize,
@@ -39,7 +39,7 @@ impl Notes {
         }
     }
 
-    /// The same, of which no plan was used yet.
+    /// The same notes, of which no plan is used yet.
     pub(crate) fn anew(self) -> Notes {
         let Notes {
             late,
@@ -55,7 +55,7 @@ impl Notes {
         }
     }
 
-    /// One more list has another member than lifetimes: its number.
+    /// Begins the notes of one more list with another member than lifetimes; returns its number.
     pub(crate) fn begin_list(&mut self) -> Result<usize, AllocError> {
         let number = self.late.len();
         self.late.push_back(Vec::new(self.alloc))?;
@@ -70,7 +70,7 @@ impl Notes {
         }
     }
 
-    /// What was noted of the next list.
+    /// Takes the notes of the next list.
     pub(crate) fn next_list(&mut self) -> Vec<Late> {
         match self.late.pop_front() {
             Some(noted) => noted,
@@ -78,7 +78,7 @@ impl Notes {
         }
     }
 
-    /// One more plan begins: its number.
+    /// Begins the notes of one more plan; returns its number.
     pub(crate) fn begin_plan(&mut self) -> Result<usize, AllocError> {
         let number = self.plans.len();
         self.plans.push(PlanNote {
@@ -89,7 +89,7 @@ impl Notes {
         Ok(number)
     }
 
-    /// What was noted of the next plan.
+    /// Takes the notes of the next plan.
     pub(crate) fn next_plan(&mut self) -> PlanNote {
         match self.plans.get(self.used) {
             Some(noted) => {
@@ -105,7 +105,7 @@ impl Notes {
         }
     }
 
-    /// What the plan of this number reads is kept as tokens: what was noted within it is forgotten.
+    /// Notes that the tokens of this plan are stored verbatim, and drops the notes taken within it.
     pub(crate) fn note_kept(&mut self, plan: usize) {
         self.plans.truncate(plan.saturating_add(1));
         if let Some(noted) = self.plans.get_mut(plan) {
@@ -115,7 +115,7 @@ impl Notes {
         }
     }
 
-    /// In the impl that the plan of this number reads generics would be read.
+    /// Notes that generics would be read in the impl of this plan.
     pub(crate) fn note_lead(&mut self, plan: usize) {
         if let Some(noted) = self.plans.get_mut(plan) {
             noted.leads = true;

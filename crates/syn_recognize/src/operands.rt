@@ -1,4 +1,4 @@
-//! What a rule reads where it is known what stands next: forms of operands without the conditions that this rules out.
+//! Rules specialised to the next token: forms without the alternatives that it rules out.
 ghost use Rattle.std.specs.Prelude.{◌≡◌};
 ghost use Rattle.syn_grammar.specs.Rules.{attributes, expression_words, generic_argument, member, meta, module_path, postfixes, statement_rest, statements, more_type_words, type, type_arguments, type_path, type_words, unary, unary_head, visibility};
 ghost use Rattle.syn_grammar.specs.Table.{table};
@@ -38,7 +38,7 @@ static NAME: Form = Form::Then(
     &Form::Rule(Rule::POSTFIXES),
 );
 
-/// An operand in a head that begins so.
+/// An operand in a head that begins with an identifier that is no keyword.
 static HEAD_NAME: Form = Form::Then(
     &Form::When(
         Look::Macro,
@@ -48,13 +48,13 @@ static HEAD_NAME: Form = Form::Then(
     &Form::Rule(Rule::POSTFIXES),
 );
 
-/// One in a head that begins with a keyword.
+/// An operand in a head that begins with a keyword.
 static HEAD_KEYWORD: Form = Form::Then(
     &Form::Rule(Rule::PRIMARY_HEAD),
     &Form::Rule(Rule::POSTFIXES),
 );
 
-/// One in a head that is a literal.
+/// An operand in a head that is a literal.
 static HEAD_LITERAL: Form = Form::Then(
     &Form::When(
         Look::AnyLiteral,
@@ -64,10 +64,10 @@ static HEAD_LITERAL: Form = Form::Then(
     &Form::Rule(Rule::POSTFIXES),
 );
 
-/// One that begins with a keyword.
+/// An operand that begins with a keyword.
 static KEYWORD: Form = Form::Then(&Form::Rule(Rule::PRIMARY), &Form::Rule(Rule::POSTFIXES));
 
-/// One that is a literal.
+/// An operand that is a literal.
 static LITERAL: Form = Form::Then(
     &Form::When(
         Look::AnyLiteral,
@@ -87,19 +87,19 @@ static LITERAL: Form = Form::Then(
     &Form::Rule(Rule::POSTFIXES),
 );
 
-/// One that begins with parentheses.
+/// An operand that begins with parentheses.
 static PARENTHESES: Form = Form::Then(
     &Form::Inside(Delimiter::Paren, &Form::Rule(Rule::EXPRESSIONS)),
     &Form::Rule(Rule::POSTFIXES),
 );
 
-/// One that begins with brackets.
+/// An operand that begins with brackets.
 static BRACKETS: Form = Form::Then(
     &Form::Inside(Delimiter::Bracket, &Form::Rule(Rule::ARRAY_CONTENT)),
     &Form::Rule(Rule::POSTFIXES),
 );
 
-/// Words of a type's path of which the first is an identifier that is no keyword.
+/// The segments of a type's path that begins with an identifier that is no keyword.
 static WORDS: Form = Form::Then(
     &Form::Then(
         &Form::Token(Token::NameOrSelfType),
@@ -128,10 +128,13 @@ static ARGUMENT: Form = Form::When(
     &Form::Rule(Rule::TYPE),
 );
 
-/// The meta of an attribute that begins so.
-static META: Form = Form::Then(&Form::Rule(Rule::MODULE_WORDS), &Form::Rule(Rule::META_VALUE));
+/// The meta of an attribute that begins with an identifier that is no keyword.
+static META: Form = Form::Then(
+    &Form::Rule(Rule::MODULE_WORDS),
+    &Form::Rule(Rule::META_VALUE),
+);
 
-/// Words of an expression's path of which the first is such an identifier.
+/// The segments of an expression's path that begins with an identifier that is no keyword.
 static EXPRESSION_WORDS: Form = Form::Then(
     &Form::Then(
         &Form::Token(Token::NameOrSelfType),
@@ -147,7 +150,7 @@ static EXPRESSION_WORDS: Form = Form::Then(
     &Form::Part(Part::EXPRESSION_WORDS_2),
 );
 
-/// A statement that begins with one, behind its attributes, and those that follow: a macro in braces, or an expression.
+/// A statement that begins with such an identifier, after its attributes, and those that follow: a macro in braces, or an expression.
 static STATEMENT: Form = Form::When(
     Look::BraceMacro,
     &Form::Then(
@@ -160,7 +163,7 @@ static STATEMENT: Form = Form::When(
     ),
 );
 
-/// Statements of which the first begins with a word, and with no attribute.
+/// Statements, where the first begins with a word and has no attribute.
 static LISTED: Form = Form::When(
     Look::Item,
     &Form::Planned(Planned::Statements),
@@ -169,7 +172,7 @@ static LISTED: Form = Form::When(
 
 static EMPTY: Form = Form::Empty;
 
-/// A form that is read as the rule is, where this stands next.
+/// The form of this rule, specialised to this next token.
 #[tactic(auto, using(crate::proofs::Opened::opens_rule), unfolding(crate::specs::Names::rule_of, crate::specs::Parts::part_form))]
 #[inline(never)]
 pub(crate) fn opened(rule: Rule, next: First) -> &'static Form
@@ -197,7 +200,7 @@ pub(crate) fn opened(rule: Rule, next: First) -> &'static Form
     }
 }
 
-/// A form that is read as a unary level is.
+/// The form of a unary level, specialised to this next token.
 #[tactic(auto, using(crate::proofs::Opened::opens_rule), unfolding(crate::specs::Names::rule_of))]
 #[inline(never)]
 pub(crate) fn operand(next: First) -> &'static Form
@@ -212,7 +215,7 @@ pub(crate) fn operand(next: First) -> &'static Form
     }
 }
 
-/// A form that is read as a unary level is where such a group stands next.
+/// The form of a unary level, specialised to this next group.
 #[tactic(auto, using(crate::proofs::Opened::opens_rule), unfolding(crate::specs::Names::rule_of))]
 fn group_operand(delimiter: Delimiter) -> &'static Form
     ensures { Opens (first.Group delimiter) (grammar_of result.now) unary }
@@ -225,7 +228,7 @@ fn group_operand(delimiter: Delimiter) -> &'static Form
     }
 }
 
-/// A form that is read as a unary level in a head is.
+/// The form of a unary level in a head, specialised to this next token.
 #[tactic(auto, using(crate::proofs::Opened::opens_rule), unfolding(crate::specs::Names::rule_of))]
 #[inline(never)]
 pub(crate) fn head_operand(next: First) -> &'static Form
@@ -240,7 +243,7 @@ pub(crate) fn head_operand(next: First) -> &'static Form
     }
 }
 
-/// A form that is read as a unary level in a head is where such a group stands next.
+/// The form of a unary level in a head, specialised to this next group.
 #[tactic(auto, using(crate::proofs::Opened::opens_rule), unfolding(crate::specs::Names::rule_of))]
 fn group_head_operand(delimiter: Delimiter) -> &'static Form
     ensures { Opens (first.Group delimiter) (grammar_of result.now) unary_head }
@@ -253,7 +256,7 @@ fn group_head_operand(delimiter: Delimiter) -> &'static Form
     }
 }
 
-/// A form that is read as postfixes are.
+/// The form of postfixes, specialised to this next token.
 #[tactic(auto, using(crate::proofs::Opened::opens_rule, crate::proofs::Opened::opens_silent), unfolding(crate::specs::Names::rule_of))]
 fn postfix(next: First) -> &'static Form
     ensures { Opens next (grammar_of result.now) postfixes }
@@ -267,7 +270,7 @@ fn postfix(next: First) -> &'static Form
     }
 }
 
-/// A form that is read as postfixes are where this character of a mark stands next.
+/// The form of postfixes, specialised to this next character.
 #[tactic(auto, using(crate::proofs::Opened::opens_rule, crate::proofs::Beginnings::dot_postfix), unfolding(crate::specs::Names::rule_of, crate::specs::Parts::part_form))]
 fn postfix_by_mark(character: char) -> &'static Form
     ensures { Opens (first.Mark character) (grammar_of result.now) postfixes }
@@ -278,7 +281,7 @@ fn postfix_by_mark(character: char) -> &'static Form
     }
 }
 
-/// A form that is read as a type is.
+/// The form of a type, specialised to this next token.
 #[tactic(auto, using(crate::proofs::Opened::opens_rule, crate::proofs::Beginnings::type_by_keyword), unfolding(crate::specs::Names::rule_of, crate::specs::Parts::part_form))]
 fn type_by(next: First) -> &'static Form
     ensures { Opens next (grammar_of result.now) type }
@@ -292,7 +295,7 @@ fn type_by(next: First) -> &'static Form
     }
 }
 
-/// A form that is read as a type is where this character of a mark stands next.
+/// The form of a type, specialised to this next character.
 #[tactic(auto, using(crate::proofs::Opened::opens_rule, crate::proofs::Beginnings::colon_type, crate::proofs::Beginnings::less_type), unfolding(crate::specs::Names::rule_of))]
 fn type_by_mark(character: char) -> &'static Form
     ensures { Opens (first.Mark character) (grammar_of result.now) type }
@@ -304,7 +307,7 @@ fn type_by_mark(character: char) -> &'static Form
     }
 }
 
-/// A form that is read as a type is where such a group stands next.
+/// The form of a type, specialised to this next group.
 #[tactic(auto, using(crate::proofs::Opened::opens_rule), unfolding(crate::specs::Names::rule_of))]
 fn type_by_group(delimiter: Delimiter) -> &'static Form
     ensures { Opens (first.Group delimiter) (grammar_of result.now) type }
@@ -317,7 +320,7 @@ fn type_by_group(delimiter: Delimiter) -> &'static Form
     }
 }
 
-/// A form that is read as a path in a type is.
+/// The form of a path in a type, specialised to this next token.
 #[tactic(auto, using(crate::proofs::Opened::opens_rule, crate::proofs::Beginnings::path_by_keyword), unfolding(crate::specs::Names::rule_of, crate::specs::Parts::part_form))]
 fn path_by(next: First) -> &'static Form
     ensures { Opens next (grammar_of result.now) type_path }
@@ -329,7 +332,7 @@ fn path_by(next: First) -> &'static Form
     }
 }
 
-/// A form that is read as the words of a type's path are.
+/// The form of the segments of a type's path, specialised to this next token.
 #[tactic(auto, using(crate::proofs::Opened::opens_rule), unfolding(crate::specs::Names::rule_of, crate::specs::Parts::part_form))]
 fn words_by(next: First) -> &'static Form
     ensures { Opens next (grammar_of result.now) type_words }
@@ -340,7 +343,7 @@ fn words_by(next: First) -> &'static Form
     }
 }
 
-/// A form that is read as the words of a type's path behind the first are.
+/// The form of the segments of a type's path after the first, specialised to this next token.
 #[tactic(auto, using(crate::proofs::Opened::opens_rule), unfolding(crate::specs::Names::rule_of, crate::specs::Parts::part_form))]
 fn more_words_by(next: First) -> &'static Form
     ensures { Opens next (grammar_of result.now) more_type_words }
@@ -351,7 +354,7 @@ fn more_words_by(next: First) -> &'static Form
     }
 }
 
-/// A form that is read as the arguments of a word in a type's path are.
+/// The form of the arguments of a segment in a type's path, specialised to this next token.
 #[tactic(auto, using(crate::proofs::Opened::opens_rule), unfolding(crate::specs::Names::rule_of))]
 fn arguments_by(next: First) -> &'static Form
     ensures { Opens next (grammar_of result.now) type_arguments }
@@ -362,7 +365,7 @@ fn arguments_by(next: First) -> &'static Form
     }
 }
 
-/// A form that is read as such arguments are where this character of a mark stands next.
+/// The form of generic arguments, specialised to this next character.
 #[tactic(auto, using(crate::proofs::Opened::opens_rule, crate::proofs::Beginnings::less_arguments), unfolding(crate::specs::Names::rule_of))]
 fn arguments_by_mark(character: char) -> &'static Form
     ensures { Opens (first.Mark character) (grammar_of result.now) type_arguments }
@@ -373,7 +376,7 @@ fn arguments_by_mark(character: char) -> &'static Form
     }
 }
 
-/// A form that is read as a generic argument is.
+/// The form of a generic argument, specialised to this next token.
 #[tactic(auto, using(crate::proofs::Opened::opens_rule), unfolding(crate::specs::Names::rule_of))]
 fn argument_by(next: First) -> &'static Form
     ensures { Opens next (grammar_of result.now) generic_argument }
@@ -384,7 +387,7 @@ fn argument_by(next: First) -> &'static Form
     }
 }
 
-/// A form that is read as attributes are.
+/// The form of attributes, specialised to this next token.
 #[tactic(auto, using(crate::proofs::Opened::opens_rule, crate::proofs::Opened::opens_silent), unfolding(crate::specs::Names::rule_of))]
 fn attributes_by(next: First) -> &'static Form
     ensures { Opens next (grammar_of result.now) attributes }
@@ -396,7 +399,7 @@ fn attributes_by(next: First) -> &'static Form
     }
 }
 
-/// A form that is read as the meta of an attribute is.
+/// The form of the meta of an attribute, specialised to this next token.
 #[tactic(auto, using(crate::proofs::Opened::opens_rule), unfolding(crate::specs::Names::rule_of))]
 fn meta_by(next: First) -> &'static Form
     ensures { Opens next (grammar_of result.now) meta }
@@ -407,7 +410,7 @@ fn meta_by(next: First) -> &'static Form
     }
 }
 
-/// A form that is read as a path in module style is.
+/// The form of a path in module style, specialised to this next token.
 #[tactic(auto, using(crate::proofs::Opened::opens_rule, crate::proofs::Beginnings::module_path_by_name, crate::proofs::Beginnings::module_path_by_keyword), unfolding(crate::specs::Names::rule_of))]
 fn module_path_by(next: First) -> &'static Form
     ensures { Opens next (grammar_of result.now) module_path }
@@ -419,7 +422,7 @@ fn module_path_by(next: First) -> &'static Form
     }
 }
 
-/// A form that is read as a visibility is.
+/// The form of a visibility, specialised to this next token.
 #[tactic(auto, using(crate::proofs::Opened::opens_rule, crate::proofs::Opened::opens_silent), unfolding(crate::specs::Names::rule_of))]
 fn visibility_by(next: First) -> &'static Form
     ensures { Opens next (grammar_of result.now) visibility }
@@ -431,7 +434,7 @@ fn visibility_by(next: First) -> &'static Form
     }
 }
 
-/// Whether a postfix may stand next.
+/// Whether the next token may begin a postfix.
 fn may_follow(next: First) -> bool
     ensures { result ≡ loud (table postfixes) next }
 {
@@ -441,21 +444,21 @@ fn may_follow(next: First) -> bool
         || is_mark('.', next)
 }
 
-/// Whether an attribute may stand next.
+/// Whether the next token may begin an attribute.
 fn may_be_attribute(next: First) -> bool
     ensures { result ≡ loud (table attributes) next }
 {
     is_mark('#', next)
 }
 
-/// Whether a visibility that is written may stand next.
+/// Whether the next token may begin a visibility that is written.
 fn may_be_visibility(next: First) -> bool
     ensures { result ≡ loud (table visibility) next }
 {
     is_keyword(next) || is_any_group(next)
 }
 
-/// A form that is read as the words of an expression's path are.
+/// The form of the segments of an expression's path, specialised to this next token.
 #[tactic(auto, using(crate::proofs::Opened::opens_rule), unfolding(crate::specs::Names::rule_of, crate::specs::Parts::part_form))]
 fn expression_words_by(next: First) -> &'static Form
     ensures { Opens next (grammar_of result.now) expression_words }
@@ -466,7 +469,7 @@ fn expression_words_by(next: First) -> &'static Form
     }
 }
 
-/// A form that is read as a member is.
+/// The form of a member, specialised to this next token.
 #[tactic(auto, using(crate::proofs::Opened::opens_rule, crate::proofs::Beginnings::member_by_name), unfolding(crate::specs::Names::rule_of, crate::specs::Parts::part_form))]
 fn member_by(next: First) -> &'static Form
     ensures { Opens next (grammar_of result.now) member }
@@ -477,7 +480,7 @@ fn member_by(next: First) -> &'static Form
     }
 }
 
-/// A form that is read as statements are.
+/// The form of statements, specialised to this next token.
 #[tactic(auto, using(crate::proofs::Opened::opens_rule), unfolding(crate::specs::Names::rule_of))]
 fn statements_by(next: First) -> &'static Form
     ensures { Opens next (grammar_of result.now) statements }
@@ -489,7 +492,7 @@ fn statements_by(next: First) -> &'static Form
     }
 }
 
-/// A form that is read as a statement behind its attributes is, with those that follow.
+/// The form of a statement after its attributes, with those that follow, specialised to this next token.
 #[tactic(auto, using(crate::proofs::Opened::opens_rule), unfolding(crate::specs::Names::rule_of))]
 fn statement_by(next: First) -> &'static Form
     ensures { Opens next (grammar_of result.now) statement_rest }

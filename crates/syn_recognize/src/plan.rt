@@ -24,21 +24,21 @@ use syn_tokens::delimiter::Delimiter;
 pub enum Plan {
     /// The plan of this stage.
     Go(Stage),
-    /// Reads a form, and goes on.
+    /// Reads a form, and continues.
     Reads(&'static Form, &'static Plan),
-    /// Goes on by what stands next.
+    /// Continues with the plan that the lookahead selects.
     Turns(Look, &'static Plan, &'static Plan),
-    /// Reads trees of a use in braces, and goes on by whether one has `::` before it.
+    /// Reads trees of a use in braces, and selects a plan by whether one of them has `::` before it.
     Rooted(&'static Plan, &'static Plan),
-    /// A plan, and behind it a form.
+    /// A plan, followed by a form.
     Then(&'static Plan, &'static Form),
-    /// It is of a kind: what is left of it.
+    /// It is of a kind: reads the rest.
     Rest(&'static Form),
-    /// It is kept as tokens: what is left of it.
+    /// Its tokens are stored verbatim: reads the rest.
     Kept(&'static Form),
-    /// Reads the generics of an impl, and goes on.
+    /// Reads the generics of an impl, and continues.
     Lists(&'static Plan),
-    /// Notes whether what stands next would be read as generics.
+    /// Notes whether the next tokens would be read as generics.
     Led(&'static Plan),
     /// Reads `for` and the self type of an impl.
     SelfType(&'static Plan),
@@ -60,7 +60,7 @@ pub enum Planned {
     ImplDefinitionRest,
 }
 
-/// Where stages stand: some in each series.
+/// A series of stages.
 #[derive(Clone, Copy)]
 enum Series {
     Series1,

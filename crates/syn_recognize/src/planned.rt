@@ -1,5 +1,5 @@
-//! How plans are followed: what alternatives have in common is read once. Whether what is read is kept as tokens is guessed before, and
-//! so is how the generics of an impl are printed where they have no parameters; a guess that turns out wrong is refused as memory is.
+//! How plans are followed: the common beginning of alternatives is read once. Whether the tokens are stored verbatim is guessed beforehand,
+//! and so is how the generics of an impl without parameters are printed; a wrong guess returns `Refusal::Memory`.
 ghost use Rattle.std.specs.Prelude.{◌≡◌, Some, None, true, false, Bool, Option, IfOk, IfErr, OnOk};
 ghost use Rattle.syn_grammar.specs.Promises.{OrMemory};
 ghost use Rattle.syn_grammar.specs.Take.{sees};
@@ -61,7 +61,7 @@ pub(crate) fn read_planned<'a>(
     Ok(())
 }
 
-/// The same, of what is kept as tokens: it is read and dropped, and then written as it is.
+/// The same for tokens that are stored verbatim: they are read, dropped, and then copied unchanged.
 #[tactic(auto, using(crate::proofs::PlanBegins::begins_aside))]
 fn read_aside<'a>(
     planned: Planned,
@@ -78,7 +78,7 @@ fn read_aside<'a>(
     Ok(())
 }
 
-/// What stands behind an item that a plan reads.
+/// The form after an item that a plan reads.
 #[tactic(auto, unfolding(crate::specs::Names::rule_of))]
 fn behind(planned: Planned) -> &'static Form
     ensures { grammar_of result.now ≡ behind_form planned }
@@ -89,7 +89,7 @@ fn behind(planned: Planned) -> &'static Form
     }
 }
 
-/// Goes on with a plan.
+/// Follows a plan.
 #[tactic(auto, using(crate::proofs::Todo::guessing))]
 pub(crate) fn read_plan<'a>(
     plan: &'static Plan,
@@ -114,7 +114,7 @@ pub(crate) fn read_plan<'a>(
     }
 }
 
-/// Goes on with this plan.
+/// Continues with this plan.
 #[tactic(auto, using(crate::proofs::Todo::push))]
 fn go_on<'a>(
     plan: &'static Plan,
@@ -129,7 +129,7 @@ fn go_on<'a>(
     Ok(())
 }
 
-/// Reads a piece, and goes on with this plan.
+/// Reads a piece, and continues with this plan.
 #[tactic(auto, using(crate::proofs::Todo::push, crate::proofs::Guessed::reads_is))]
 fn read_piece<'a>(
     form: &'static Form,
@@ -146,7 +146,7 @@ fn read_piece<'a>(
     Ok(())
 }
 
-/// Goes on by what stands next.
+/// Continues with the plan that the lookahead selects.
 #[tactic(auto, using(crate::proofs::Todo::push, crate::proofs::Guessed::turns_is))]
 fn turn<'a>(
     look: &Look,
@@ -167,7 +167,7 @@ fn turn<'a>(
     Ok(())
 }
 
-/// Reads trees of a use in braces, and then goes on by whether one has `::` before it.
+/// Reads trees of a use in braces, and then selects a plan by whether one of them has `::` before it.
 #[tactic(auto, using(crate::proofs::Todo::push, crate::proofs::Guessed::rooted_is), unfolding(crate::specs::Names::rule_of))]
 fn read_trees<'a>(
     one: &'static Plan,
@@ -184,7 +184,7 @@ fn read_trees<'a>(
     Ok(())
 }
 
-/// Goes on by whether one of the trees of a use that were read from there on has `::` before it.
+/// Selects a plan by whether one of the trees of a use from `begin` on has `::` before it.
 #[tactic(auto, using(crate::proofs::Todo::push))]
 pub(crate) fn choose_by_roots<'a>(
     one: &'static Plan,
@@ -205,7 +205,7 @@ pub(crate) fn choose_by_roots<'a>(
     Ok(())
 }
 
-/// Goes on with this plan, and behind it reads this form; where all is kept as tokens, that was put off when the plan began.
+/// Continues with this plan, and then reads this form; where all is stored verbatim, the form was deferred when the plan began.
 #[tactic(auto, using(crate::proofs::Todo::push))]
 fn follow<'a>(
     plan: &'static Plan,
@@ -224,7 +224,7 @@ fn follow<'a>(
     Ok(())
 }
 
-/// It is of a kind: reads what is left.
+/// It is of a kind: reads the rest.
 #[tactic(auto, using(crate::proofs::Todo::push))]
 fn read_rest<'a>(
     form: &'static Form,
@@ -245,7 +245,7 @@ fn read_rest<'a>(
     Ok(())
 }
 
-/// It is kept as tokens: reads what is left.
+/// The tokens are stored verbatim: reads the rest.
 #[tactic(auto, using(crate::proofs::Todo::push))]
 fn read_kept<'a>(
     form: &'static Form,
@@ -268,7 +268,7 @@ fn read_kept<'a>(
     Ok(())
 }
 
-/// Notes that what the plan of this number reads is kept, and nothing more of it: reads what is left.
+/// Notes that the tokens of the plan of this number are stored verbatim, and reads the rest without taking notes.
 #[tactic(auto, using(crate::proofs::Todo::push, crate::proofs::WrittenAside::dropped_is))]
 fn note_kept<'a>(
     form: &'static Form,
@@ -289,7 +289,7 @@ fn note_kept<'a>(
 
 // IMPLS
 
-/// Reads the generics of an impl, and goes on.
+/// Reads the generics of an impl, and continues.
 #[tactic(auto, using(crate::proofs::Guessed::lists_kept, crate::proofs::Guessed::lists_open, crate::proofs::Guessed::lists_guessed))]
 fn read_lists<'a>(
     plan: &'static Plan,
@@ -327,7 +327,7 @@ fn show_lists<'a>(
     Ok(())
 }
 
-/// The same, where generics without parameters are printed by a guess. Nothing is guessed where trees are shown.
+/// The same, where generics without parameters are printed as guessed. Nothing is guessed where trees are shown.
 #[tactic(auto, using(crate::proofs::ImplGenerics::none_absent, crate::proofs::ImplGenerics::none_bare, crate::proofs::ImplGenerics::none_open, crate::proofs::ImplGenerics::none_refused, crate::proofs::ImplGenerics::some_kept))]
 fn print_lists<'a>(
     plan: &'static Plan,
@@ -357,7 +357,7 @@ fn print_lists<'a>(
     go_on_guessed(plan, guess, leads, steps, out, input)
 }
 
-/// Reads parameters, and goes on: how generics without parameters are printed is no matter.
+/// Reads parameters, and continues: it doesn't matter how generics without parameters are printed.
 #[tactic(auto, using(crate::proofs::Todo::push, crate::proofs::Guessed::settled_follows))]
 fn read_parameters<'a>(
     plan: &'static Plan,
@@ -374,7 +374,7 @@ fn read_parameters<'a>(
     Ok(())
 }
 
-/// Goes on with this guess of how they are printed.
+/// Continues with this guess of how they are printed.
 #[tactic(auto, using(crate::proofs::Todo::push, crate::proofs::Guessed::guess_is))]
 fn go_on_guessed<'a>(
     plan: &'static Plan,
@@ -392,7 +392,7 @@ fn go_on_guessed<'a>(
     Ok(())
 }
 
-/// Writes generics without parameters as `< >` where this is so, else nothing.
+/// Writes `< >` for generics without parameters if they are guessed to be printed, else nothing.
 #[tactic(auto, using(crate::proofs::ImplGenerics::both_marks, crate::proofs::Writes::adds_none))]
 fn write_none(leads: bool, out: &mut Writer) -> Result<(), AllocError>
     ensures { OnOk result (out.new ≡ adds out.old (guessed_generics leads)) }
@@ -404,7 +404,7 @@ fn write_none(leads: bool, out: &mut Writer) -> Result<(), AllocError>
     Ok(())
 }
 
-/// Goes on behind the generics of an impl, with what is known where they would be read there.
+/// Continues after the generics of an impl, and compares the guess with whether generics would be read there.
 #[tactic(auto, using(crate::proofs::Todo::push))]
 fn read_led<'a>(
     plan: &'static Plan,
@@ -420,7 +420,7 @@ fn read_led<'a>(
     Ok(())
 }
 
-/// Reads `for` and the self type of an impl, and goes on, with what is known where generics would be read behind `for`.
+/// Reads `for` and the self type of an impl, and compares the guess with whether generics would be read after `for`.
 #[tactic(auto, using(crate::proofs::Todo::push), unfolding(crate::specs::Names::rule_of))]
 fn read_self_type<'a>(
     plan: &'static Plan,
@@ -437,7 +437,7 @@ fn read_self_type<'a>(
     Ok(())
 }
 
-/// What is still guessed where generics would be read, or not. Refused as memory is where the guess was wrong.
+/// Compares the guess with whether generics would be read here, and returns what is still guessed. A wrong guess returns `Refusal::Memory`.
 fn compared(guess: Guess, it: bool, out: &mut Writer) -> Parsed<Guess>
     ensures kept { IfOk result (λ g. g.kept ≡ guess.kept) }
     ensures leads { IfOk result (λ g. (q : Option Bool → Copy) → led_by guess.leads it q ≡ q g.leads) }
@@ -455,7 +455,7 @@ fn compared(guess: Guess, it: bool, out: &mut Writer) -> Parsed<Guess>
     }
 }
 
-/// Whether generics would be read behind the `for` that stands next. Refused only where memory is.
+/// Whether generics would be read after the `for` that is next. Refused only where memory is.
 #[tactic(auto, using(crate::proofs::Guessed::for_led, crate::proofs::Guessed::for_lacks))]
 fn leads_on(input: &ParseBuffer<'_>) -> Parsed<bool>
     ensures { OrMemory IsSyntax result (λ answer. answer ≡ leads_on input.now) }

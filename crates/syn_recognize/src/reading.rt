@@ -1,4 +1,4 @@
-//! Reads past what a rule reads, step by step, without recursion.
+//! Reads what a rule reads, step by step, without recursion.
 ghost use Rattle.std.specs.Prelude.{◌≡◌, None, IfErr};
 ghost use Rattle.syn_grammar.specs.Run.{parse_rule};
 ghost use Rattle.syn_grammar.specs.Promises.{Kept, OrMemory, Takes};
@@ -31,7 +31,7 @@ fn run<'a>(steps: &mut Vec<Step<'a>>, out: &mut Writer, input: &mut ParseBuffer<
     Err(Refusal::Memory(None))
 }
 
-/// These tokens once more. Refused only where memory is.
+/// A copy of these tokens. Fails only where memory is refused.
 pub(crate) fn copy_of(tokens: &TokenStream) -> Parsed<TokenStream>
     ensures { OrMemory IsSyntax result (λ copy. copy ≡ tokens.now) }
 {
@@ -51,7 +51,7 @@ fn write_rule(rule: Rule, out: &mut Writer, input: &mut ParseBuffer<'_>) -> Pars
     run(&mut steps, out, input)
 }
 
-/// Reads the rule, and writes its tokens. Where it is refused, `mistaken` says whether what was guessed of lists and plans was wrong.
+/// Reads the rule, and writes its tokens. On failure, `mistaken` is whether a guess about lists and plans was wrong.
 fn write_guessing(
     rule: Rule,
     out: &mut Writer,
@@ -65,8 +65,8 @@ fn write_guessing(
     done
 }
 
-/// Reads what the rule reads, and keeps nothing of it. It takes no memory but for what is still to be done, and no stack. Refused, with
-/// a fault at a token that can't stand there, or where memory is, it says nothing of what is left.
+/// Reads what the rule reads, and stores none of it. Allocates only the deferred steps, and uses no stack. Fails at a token that the rule
+/// refuses, or where memory is refused; then nothing is known of the cursor.
 #[tactic(auto, using(crate::proofs::Shown::read, crate::proofs::Shown::not_read, crate::proofs::Shown::kept, crate::proofs::Shown::moved))]
 pub fn read_by(rule: Rule, input: &mut ParseBuffer<'_>) -> Parsed<()>
     ensures reads { ReadsBy IsSyntax (rule_of rule) input.old result input.new }
@@ -78,16 +78,15 @@ pub fn read_by(rule: Rule, input: &mut ParseBuffer<'_>) -> Parsed<()>
     Ok(())
 }
 
-/// What was read: its tokens as they are shown, and as they are printed.
+/// The tokens that were read, as they are shown, and as they are printed.
 #[derive(Drop)]
 pub struct ShownAndPrinted {
     pub shown: TokenStream,
     pub printed: TokenStream,
 }
 
-/// Reads what the rule reads: its tokens as they are shown, and as they are printed; each is written by a reading of its own. What was
-/// noted of lists and plans is known before, or it is guessed that nothing was: a wrong guess is refused as memory is, and `mistaken` says
-/// so.
+/// Reads what the rule reads, once for its tokens as they are shown and once as they are printed. `notes` are the notes on lists and plans,
+/// or none as a guess. A wrong guess sets `mistaken` and returns `Refusal::Memory`.
 #[tactic(auto, using(crate::proofs::Shown::not_read))]
 fn both_by(
     rule: Rule,
@@ -109,8 +108,8 @@ fn both_by(
     Ok(ShownAndPrinted { shown, printed })
 }
 
-/// Reads what the rule reads, and writes its tokens as they are printed, with what was noted of lists and plans; a wrong guess is refused
-/// as memory is, and `mistaken` says so.
+/// Reads what the rule reads, and writes its tokens as they are printed. `notes` are the notes on lists and plans. A wrong guess sets
+/// `mistaken` and returns `Refusal::Memory`.
 #[tactic(auto, using(crate::proofs::Shown::not_read, crate::proofs::Shown::kept, crate::proofs::Shown::moved))]
 fn printed_with(
     rule: Rule,
@@ -128,7 +127,7 @@ fn printed_with(
     Ok(printed)
 }
 
-/// How lists and plans are in what the rule reads. It is refused where the rule reads nothing, and where memory is.
+/// The notes on lists and plans in what the rule reads. Fails where the rule reads nothing, or where memory is refused.
 #[tactic(auto, using(crate::proofs::Shown::not_read))]
 fn noted(rule: Rule, input: &ParseBuffer<'_>) -> Parsed<Notes>
     ensures { IfErr result (λ e. IsSyntax e → parse_rule (rule_of rule) input.now ≡ None) }
@@ -140,9 +139,9 @@ fn noted(rule: Rule, input: &ParseBuffer<'_>) -> Parsed<Notes>
     Ok(notes)
 }
 
-/// Reads what the rule reads: its tokens as they are shown, and as they are printed. All is read twice, and three more times where
-/// something is kept as tokens, or where a list in `< >` has a lifetime behind another member, or an impl is printed with `< >`. Refused,
-/// it says nothing of what is left.
+/// Reads what the rule reads: its tokens as they are shown, and as they are printed. Reads all twice, and three more times where something
+/// is stored verbatim, where a list in `< >` has a lifetime after another member, or where an impl is printed with `< >`. On failure
+/// nothing is known of the cursor.
 pub fn recognized_and_printed(rule: Rule, input: &mut ParseBuffer<'_>) -> Parsed<ShownAndPrinted>
     ensures reads { ShowsAndPrints IsSyntax (rule_of rule) input.old result input.new }
     ensures kept { Kept input.old result input.new }
@@ -160,9 +159,9 @@ pub fn recognized_and_printed(rule: Rule, input: &mut ParseBuffer<'_>) -> Parsed
     }
 }
 
-/// Reads what the rule reads: its tokens as they are printed. They are written once; all is read once, and three times where something
-/// is kept as tokens, or where a list in `< >` has a lifetime behind another member, or an impl is printed with `< >`. Refused, it says
-/// nothing of what is left.
+/// Reads what the rule reads: its tokens as they are printed. Writes them once. Reads all once, and three times where something is stored
+/// verbatim, where a list in `< >` has a lifetime after another member, or where an impl is printed with `< >`. On failure nothing is known
+/// of the cursor.
 pub fn printed_by(rule: Rule, input: &mut ParseBuffer<'_>) -> Parsed<TokenStream>
     ensures reads { Prints IsSyntax (rule_of rule) input.old result input.new }
     ensures kept { Kept input.old result input.new }

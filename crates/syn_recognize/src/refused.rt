@@ -1,4 +1,4 @@
-//! What is said of a form that isn't read: what is expected there; or what else stands there, or that nothing does.
+//! Error messages of forms that aren't read: the expected form, the Rust form found that is left out, or the end of the input.
 ghost use Rattle.syn_parse.specs.Refusals.{IsSyntax};
 
 use crate::form::Form;
@@ -9,8 +9,8 @@ use syn_parse::buffer::ParseBuffer;
 use syn_parse::read::refusal::Refusal;
 use syn_tokens::delimiter::Delimiter;
 
-/// The refusal of a form that stands next, by the refusal of what reads it. Where nothing stands next, and where a form of Rust stands
-/// there that is left out, it says so; all else of it stays.
+/// The refusal of the form that is next, from the refusal of what reads it. At the end of the input, and at a Rust form that is left out,
+/// the message says so; otherwise the refusal is unchanged.
 pub(crate) fn told(refusal: Refusal, form: &Form, input: &ParseBuffer<'_>) -> Refusal
     ensures { IsSyntax result → IsSyntax refusal }
 {
@@ -23,7 +23,7 @@ pub(crate) fn told(refusal: Refusal, form: &Form, input: &ParseBuffer<'_>) -> Re
     }
 }
 
-/// The refusal of what is left over in a group.
+/// The refusal of tokens left over in a group.
 pub(crate) fn left_over(input: &ParseBuffer<'_>) -> Refusal
     ensures { IsSyntax result }
 {
@@ -33,7 +33,7 @@ pub(crate) fn left_over(input: &ParseBuffer<'_>) -> Refusal
     }
 }
 
-/// What is said where the form doesn't stand, in place of the text.
+/// The error message where the form isn't next, in place of the text.
 fn text_of(text: &'static str, form: &Form, input: &ParseBuffer<'_>) -> &'static str {
     let known = if input.is_empty() {
         at_end(form)
@@ -46,7 +46,7 @@ fn text_of(text: &'static str, form: &Form, input: &ParseBuffer<'_>) -> &'static
     }
 }
 
-/// What is said of a form that is left out, where one may stand.
+/// The error message at a form that is left out.
 fn left_out(form: &Form, input: &ParseBuffer<'_>) -> Option<&'static str> {
     match form {
         Form::TokenAt(_, place) => place.left_out(input),
@@ -56,7 +56,7 @@ fn left_out(form: &Form, input: &ParseBuffer<'_>) -> Option<&'static str> {
     }
 }
 
-/// What is said of a form that is expected at the end, where it is one token or a group.
+/// The error message where this form, a token or a group, is expected at the end.
 fn at_end(form: &Form) -> Option<&'static str> {
     match form {
         Form::Token(token) => token_at_end(*token),
@@ -71,7 +71,7 @@ fn at_end(form: &Form) -> Option<&'static str> {
     }
 }
 
-/// What is said where this token is expected at the end. The number of a field is expected where an integer stands alone.
+/// The error message where this token is expected at the end. The number of a field is only expected where an integer is next.
 fn token_at_end(token: Token) -> Option<&'static str> {
     match token {
         Token::Word(word) => Some(word_at_end(word)),
@@ -81,7 +81,7 @@ fn token_at_end(token: Token) -> Option<&'static str> {
     }
 }
 
-/// What is said where a group with these delimiters is expected at the end.
+/// The error message where a group with these delimiters is expected at the end.
 fn group_at_end(delimiter: Delimiter) -> &'static str {
     match delimiter {
         Delimiter::Paren => "unexpected end of input, expected parentheses",

@@ -11,7 +11,7 @@ use syn_parse::read::refusal::{Parsed, Refusal};
 use syn_tokens::stream::TokenStream;
 use syn_tokens::stream::entry::{Entry, Token};
 
-/// Whether `::` stands before one of the trees in braces that were read from there on. Refused only where memory is.
+/// Whether `::` is before one of the trees in braces from `begin` on. Refused only where memory is.
 pub(crate) fn has_root_mark<'a>(begin: &ParseBuffer<'a>, input: &ParseBuffer<'a>) -> Parsed<bool>
     ensures { OrMemory IsSyntax result (λ answer. answer ≡ roots false (before begin.now input.now)) }
 {
@@ -21,7 +21,7 @@ pub(crate) fn has_root_mark<'a>(begin: &ParseBuffer<'a>, input: &ParseBuffer<'a>
     }
 }
 
-/// Whether `:` stands at the beginning of a group among these tokens, or behind a comma.
+/// Whether `:` is at the beginning of a group among these tokens, or after a comma.
 #[tactic(auto, using(crate::proofs::RootMarks::roots_are, crate::proofs::RootMarks::roots_step, crate::proofs::RootMarks::roots_done))]
 fn has_root(tokens: &TokenStream) -> bool
     ensures { result ≡ roots false tokens.now }
@@ -49,7 +49,7 @@ fn is_colon(entry: &Entry) -> bool
     }
 }
 
-/// Whether a tree begins behind it: the opening delimiter of a group, or a comma.
+/// Whether a tree begins after it: the opening delimiter of a group, or a comma.
 fn begins_tree(entry: &Entry) -> bool
     ensures { result ≡ begins_entry entry.now }
 {

@@ -1,5 +1,5 @@
-//! Lists in `< >`, of members that are printed first, and others. Shown, their members stand as they are read. Printed, the first ones
-//! that stand behind some other member were noted when the list was shown, are written before it, and compared where they are read.
+//! Lists in `< >`, of members that are printed first, and others. Shown, the members keep their order. Printed, the first ones that follow
+//! some other member were noted when the list was shown; they are written before it, and compared where they are read.
 ghost use Rattle.std.specs.Prelude.{◌≡◌, true, false, [], ◌∷◌, map, OnOk};
 ghost use Rattle.syn_grammar.specs.Promises.{OrMemory};
 ghost use Rattle.syn_grammar.specs.Grammar.{ordered, at_row_end};
@@ -71,7 +71,7 @@ pub(crate) fn read_row<'a>(
     read_other(list, number, steps, out, input)
 }
 
-/// Reads a member that is printed first; where it is a late one, it is read twice, once aside, to be noted as it is printed.
+/// Reads a member that is printed first. A late one is read twice: first aside, to note it as it is printed.
 #[tactic(auto, using(crate::proofs::Todo::push, crate::proofs::Lists::noted_is))]
 fn read_first<'a>(
     list: List,
@@ -95,7 +95,7 @@ fn read_first<'a>(
     }
 }
 
-/// Notes what was written aside as a late member, goes back there, and on with what was written before.
+/// Notes what was written aside as a late member, returns to its beginning, and restores the output before it.
 pub(crate) fn note<'a>(
     before: Box<Writer>,
     begin: &ParseBuffer<'a>,
@@ -112,7 +112,7 @@ pub(crate) fn note<'a>(
     Ok(())
 }
 
-/// Where the comma stands that stands next; 0 to 0 where none does.
+/// The span of the comma that is next; 0 to 0 where there is none.
 fn comma_at(input: &ParseBuffer<'_>) -> Span {
     if input.peek::<Comma>() {
         input.span()
@@ -138,7 +138,7 @@ fn read_other<'a>(
     Ok(())
 }
 
-/// The number of a list that has another member now; none where nothing is to be noted.
+/// The number of a list that has another member now; none where nothing is noted.
 fn number_of(number: Option<usize>, out: &mut Writer) -> Result<Option<usize>, AllocError>
     ensures { out.new ≡ out.old }
 {
@@ -209,7 +209,7 @@ pub(crate) fn read_others<'a>(
     read_another(list, late, steps, out, input)
 }
 
-/// Refused where members are still expected: then what was guessed of the list was wrong.
+/// Refuses late members that are still expected: the guess about the list was wrong.
 fn no_more(late: &Guesses, out: &mut Writer) -> Parsed<()>
     ensures none { OrMemory IsSyntax result (λ x. late.now ≡ []) }
     ensures unchanged { out.new ≡ out.old }
@@ -237,7 +237,7 @@ fn read_another<'a>(
     Ok(())
 }
 
-/// Reads a late member aside, as it was written already.
+/// Reads aside a late member that was written before.
 #[tactic(auto, using(crate::proofs::Todo::push))]
 fn read_late<'a>(
     list: List,
@@ -256,8 +256,7 @@ fn read_late<'a>(
     Ok(())
 }
 
-/// Goes on behind a late member, and its comma, with what was written before. It is the one that is expected, or what was guessed of
-/// the list was wrong.
+/// Continues after a late member and its comma with the output before it. Another member than the expected one is a wrong guess.
 #[tactic(auto, using(crate::proofs::Todo::push, crate::proofs::Lists::late_last, crate::proofs::Lists::late_more))]
 pub(crate) fn skip_late<'a>(
     list: List,
@@ -288,7 +287,7 @@ pub(crate) fn skip_late<'a>(
     Ok(())
 }
 
-/// Where a comma stands.
+/// The span of a comma.
 fn place_of(comma: &Comma) -> Span
     ensures { at result ≡ span_of (comma_syntax comma.now) }
 {

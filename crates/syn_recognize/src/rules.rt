@@ -34,7 +34,7 @@ mod traits;
 mod types;
 mod visibilities;
 
-/// Where rules stand: in which file, or part of one.
+/// A file of rules, or a part of one.
 #[derive(Clone, Copy, PartialEq, Eq)]
 enum Topic {
     Attributes,
@@ -63,7 +63,7 @@ enum Topic {
     Files,
 }
 
-/// A rule of the grammar: where it stands.
+/// A rule of the grammar, by its group and its place there.
 #[derive(Clone, Copy, PartialEq, Eq)]
 pub struct Rule {
     topic: Topic,
@@ -1245,7 +1245,7 @@ pub(crate) fn form_of(rule: Rule) -> &'static Form
     }
 }
 
-/// Where parts stand: of which rules they are.
+/// A group of parts.
 #[derive(Clone, Copy)]
 enum Group {
     Types,
@@ -1274,7 +1274,7 @@ enum Group {
     Planned5,
 }
 
-/// A part of a rule's form that has a static of its own: Rattle's own compiler takes no larger ones.
+/// A part of a rule's form with a static of its own: Rattle's own compiler accepts no larger ones.
 #[derive(Clone, Copy)]
 pub(crate) struct Part {
     group: Group,

@@ -1,10 +1,10 @@
-//! Whether tokens are the same, spans too.
+//! Whether tokens are the same, spans included.
 ghost use Rattle.std.specs.Prelude.{◌≡◌, IsTrue};
 
 use syn_tokens::stream::TokenStream;
 use syn_tokens::stream::entry::{Entry, Token};
 
-/// Whether both are the same tokens, spans too.
+/// Whether both are the same tokens, spans included.
 #[tactic(auto, using(crate::proofs::Exact::drop_same, crate::proofs::Exact::all_same))]
 pub(crate) fn are_same(one: &TokenStream, other: &TokenStream) -> bool
     ensures { IsTrue result → one.now ≡ other.now }
@@ -21,7 +21,7 @@ pub(crate) fn are_same(one: &TokenStream, other: &TokenStream) -> bool
     true
 }
 
-/// Whether both are the same token or delimiter, spans too.
+/// Whether both are the same token or delimiter, spans included.
 fn is_same_entry(one: &Entry, other: &Entry) -> bool
     ensures { IsTrue result → one.now ≡ other.now }
 {

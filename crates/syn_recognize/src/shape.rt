@@ -1,6 +1,6 @@
 //! Written by tools/recognizers.py; edits are lost.
 //!
-//! The shapes by which values are built. Reading asks for none of them.
+//! The shapes of values, as the specifications build them. Reading needs none of them.
 
 /// How the value of a form is built.
 #[derive(Clone, Copy)]

@@ -1,4 +1,4 @@
-//! What is still to be done.
+//! Deferred steps.
 use crate::form::Form;
 use crate::guess::Guess;
 use crate::late::Guesses;
@@ -9,35 +9,36 @@ use syn_parse::buffer::ParseBuffer;
 use syn_tokens::delimiter::Delimiter;
 use syn_tokens::span::Span;
 
-/// A step that is still to be done.
+/// A deferred step.
 #[derive(Drop)]
 pub enum Step<'a> {
     /// Reads a form.
     Form(&'static Form),
-    /// Asks that nothing is left of a group with these delimiters, of which the closing one stands there, and goes on behind it.
+    /// Requires that nothing is left of a group with these delimiters and this span of the closing one, and continues after it.
     Close(Delimiter, Span, ParseBuffer<'a>),
-    /// Reads a list up to `>`; behind some member that isn't printed first, the list of that number.
+    /// Reads a list up to `>`; after some member that isn't printed first, the list of that number.
     Row(List, Option<usize>),
     /// Reads what follows a member of such a list.
     RowRest(List, Option<usize>),
-    /// Reads what is left of such a list, of which these members were written already.
+    /// Reads the rest of such a list, whose late members, these, are written already.
     Others(List, Guesses),
     /// Reads what follows another member there.
     OthersRest(List, Guesses),
-    /// Notes what was written aside as a late member of the list of that number, goes back there, and on with what was written before.
+    /// Notes what was written aside as a late member of the list of that number, returns to its beginning, and restores the output before
+    /// it.
     Note(Box<Writer>, ParseBuffer<'a>, usize),
-    /// What was written aside is the next late member: goes on with what was written before.
+    /// Requires that the tokens written aside are the next late member, and restores the output before it.
     Skip(List, Box<Writer>, Guesses),
-    /// Goes on with what was written before.
+    /// Restores the output that was set aside.
     Forget(Box<Writer>),
-    /// The same, and writes what was read from there on, as it is.
+    /// The same, and copies the tokens read since then unchanged.
     Capture(Box<Writer>, ParseBuffer<'a>),
     /// Reads the levels of operators from the first number on, those that bind most tightly first, up to the second.
     Levels(usize, usize),
-    /// Reads the first form where a group in braces was read last, from there on, else the second.
+    /// Reads the first form if the last token tree since then is a group in braces, else the second.
     ByBraces(&'static Form, &'static Form, ParseBuffer<'a>),
-    /// Goes on with a plan.
+    /// Follows a plan.
     Plan(&'static Plan, Guess),
-    /// Goes on with the first plan where one of the trees of a use that were read from there on has `::` before it, else with the second.
+    /// Continues with the first plan if one of the trees of a use read since then has `::` before it, else with the second.
     Rooted(&'static Plan, &'static Plan, Guess, ParseBuffer<'a>),
 }

@@ -50,7 +50,7 @@ use syn_tokens::token::{DelimiterKind, kind};
 
 static EMPTY: Form = Form::Empty;
 
-/// Does one step, and those behind it up to the next token.
+/// Does one step, and those after it up to the next token.
 #[tactic(auto, using(crate::proofs::Todo::guessing_leads))]
 pub(crate) fn take<'a>(
     step: Step<'a>,
@@ -67,7 +67,7 @@ pub(crate) fn take<'a>(
     }
 }
 
-/// Does a step that isn't to read a form, or levels.
+/// Does a step other than reading a form or levels.
 #[tactic(auto, using(crate::proofs::Todo::guessing))]
 fn take_other<'a>(
     step: Step<'a>,
@@ -99,7 +99,7 @@ fn take_other<'a>(
     }
 }
 
-/// Reads the levels that stand behind an operand, from the first number on up to the second: the first of them that may read something.
+/// Reads the levels of this range after an operand: the first of them that can match.
 fn read_levels<'a>(
     from: usize,
     to: usize,
@@ -116,7 +116,7 @@ fn read_levels<'a>(
     Ok(())
 }
 
-/// Reads a level, and puts off those behind it.
+/// Reads a level, and defers those after it.
 #[tactic(auto, using(crate::proofs::Todo::goes_read, crate::proofs::Todo::goes_first, crate::proofs::Ladder::begun))]
 fn read_level<'a>(
     level: usize,
@@ -135,7 +135,7 @@ fn read_level<'a>(
     read_form(form, steps, out, input)
 }
 
-/// Reads a form, or says what is to be read for it; where nothing is to be read for it, the same of what was put off.
+/// Reads a form after descending to the first part that reads something itself.
 #[tactic(auto, using(crate::proofs::Todo::goes_read, crate::proofs::Todo::guessing_leads))]
 fn read_form<'a>(
     form: &'static Form,
@@ -152,7 +152,7 @@ fn read_form<'a>(
     }
 }
 
-/// Goes down to the first form that reads something itself, and puts off what follows it. Refused only where memory is.
+/// Descends to the first form that reads something itself, and defers what follows it. Refused only where memory is.
 #[tactic(auto, using(crate::proofs::Todo::goes_here))]
 fn descend<'a>(
     form: &'static Form,
@@ -176,7 +176,7 @@ fn descend<'a>(
     Err(Refusal::Memory(None))
 }
 
-/// Behind a form that reads nothing: the form that was put off last, where that is one.
+/// After a form that reads nothing: the last deferred step, if it is a form.
 #[tactic(auto, using(crate::proofs::Copied::empty_is, crate::proofs::Copied::unshown_is))]
 fn resumed<'a>(
     form: &'static Form,
@@ -195,7 +195,7 @@ fn resumed<'a>(
     }
 }
 
-/// The form that was put off last, where that is one; of levels that were, what the first of them reads that may read something.
+/// Pops the last deferred step if it is a form; of a range of operator levels, takes the first that can match.
 #[tactic(auto, using(crate::proofs::Todo::goes_back))]
 fn next_form<'a>(
     next: First,
@@ -219,7 +219,7 @@ fn next_form<'a>(
     }
 }
 
-/// What the first level reads that may read something; the others are put off.
+/// The form of the first level that can match; defers the levels after it.
 #[tactic(auto, using(crate::proofs::Ladder::goes_up, crate::proofs::Ladder::goes_past))]
 fn next_level<'a>(
     from: usize,
@@ -243,8 +243,7 @@ fn next_level<'a>(
     Ok(form)
 }
 
-/// The form that begins where this one does, of those that it is made of, where it is made of some; what follows that is put off.
-/// Refused only where memory is.
+/// The form with which this composed form begins; defers the rest. None where the form is not composed. Refused only where memory is.
 #[tactic(auto, using(crate::proofs::Todo::goes_here, crate::proofs::Copied::shaped_is))]
 fn below<'a>(
     form: &'static Form,
@@ -267,7 +266,7 @@ fn below<'a>(
     }
 }
 
-/// Goes on with the first of two forms, and puts off the second.
+/// Continues with the first of two forms, and defers the second.
 #[tactic(auto, using(crate::proofs::Todo::goes_first, crate::proofs::Copied::then_is))]
 fn put_off<'a>(
     one: &'static Form,
@@ -298,7 +297,7 @@ fn begin_only(rule: Rule, out: &Writer, input: &ParseBuffer<'_>) -> &'static For
     form_of(rule)
 }
 
-/// Chooses a form by what stands next, which is this.
+/// Chooses a form by the next token.
 #[tactic(auto, using(crate::proofs::Copied::when_is))]
 fn choose(
     look: &Look,
@@ -318,7 +317,7 @@ fn choose(
     }
 }
 
-/// Goes on with the form of a rule; of an operand with levels behind it with that of a unary one, and puts off the levels.
+/// Continues with the form of a rule; of an operand with operator levels, with that of a unary one, and defers the levels.
 fn begin_rule<'a>(
     rule: Rule,
     next: First,
@@ -338,7 +337,7 @@ fn begin_rule<'a>(
     }
 }
 
-/// The same of rules of heads, and of others.
+/// The same for rules of heads, and for others.
 #[tactic(auto, using(crate::proofs::Opened::goes_opened))]
 fn begin_other<'a>(
     rule: Rule,
@@ -359,7 +358,7 @@ fn begin_other<'a>(
     }
 }
 
-/// Begins a plan, or reads another form that isn't made of one that begins where it does.
+/// Begins a plan, or reads another form that isn't composed.
 #[tactic(auto, using(crate::proofs::Todo::guessing))]
 fn read_begun<'a>(
     form: &'static Form,
@@ -375,7 +374,7 @@ fn read_begun<'a>(
     }
 }
 
-/// Reads a form that isn't made of another that begins where it does, and isn't read by a plan.
+/// Reads a form that isn't composed and isn't read by a plan.
 #[tactic(auto, unfolding(crate::specs::Copies::copy_form))]
 fn read_leaf<'a>(
     form: &'static Form,
@@ -415,7 +414,7 @@ fn read_leaf<'a>(
     }
 }
 
-/// Reads and writes a mark, and says this where it doesn't stand.
+/// Reads and writes a mark; refuses with this fault if another token is next.
 fn copy_mark_else(
     mark: Mark,
     fault: Fault,
@@ -470,7 +469,7 @@ fn enter_by<'a, K: DelimiterKind>(
     Ok(())
 }
 
-/// Ends a group, and goes on behind it.
+/// Ends a group, and continues after it.
 #[tactic(auto, using(syn_grammar::proofs::Looks::sees_ended))]
 fn leave<'a>(
     delimiter: Delimiter,
@@ -489,7 +488,7 @@ fn leave<'a>(
     Ok(())
 }
 
-/// Reads and writes a group, as it is.
+/// Reads a group, and copies it unchanged.
 fn copy_group(delimiter: Delimiter, out: &mut Writer, input: &mut ParseBuffer<'_>) -> Parsed<()>
     ensures { Runs IsSyntax (copy_form (grammar.raw (delimiter_of delimiter)) out.old input.old) result out.new input.new }
 {
@@ -501,7 +500,7 @@ fn copy_group(delimiter: Delimiter, out: &mut Writer, input: &mut ParseBuffer<'_
     }
 }
 
-/// Reads and writes a group with these delimiters, as it is.
+/// Reads a group with these delimiters, and copies it unchanged.
 #[tactic(auto, using(crate::proofs::Copied::raw_is, crate::proofs::Copied::not_raw))]
 fn copy_group_by<K: DelimiterKind>(out: &mut Writer, input: &mut ParseBuffer<'_>) -> Parsed<()>
     ensures { Runs IsSyntax (copy_form (grammar.raw K.delimiter) out.old input.old) result out.new input.new }
@@ -513,7 +512,7 @@ fn copy_group_by<K: DelimiterKind>(out: &mut Writer, input: &mut ParseBuffer<'_>
     Ok(())
 }
 
-/// Writes all that is left, as it is; where what is written is dropped, nothing is copied.
+/// Copies all that is left unchanged; copies nothing where the output is dropped.
 #[tactic(auto, using(crate::proofs::Writes::adds_nothing))]
 fn append_all(input: &mut ParseBuffer<'_>, out: &mut Writer) -> Parsed<()>
     ensures { OrMemory IsSyntax result (λ x. out.new ≡ adds out.old input.old) }
@@ -526,7 +525,7 @@ fn append_all(input: &mut ParseBuffer<'_>, out: &mut Writer) -> Parsed<()>
     Ok(())
 }
 
-/// A copy of all that is left, which is then read. Refused only where memory is.
+/// A copy of all that is left, which is consumed. Fails only where memory is refused.
 fn all_of(input: &mut ParseBuffer<'_>) -> Parsed<TokenStream>
     ensures copy { OrMemory IsSyntax result (λ copy. copy ≡ input.old) }
     ensures read { OnOk result (input.new ≡ end) }
@@ -537,7 +536,7 @@ fn all_of(input: &mut ParseBuffer<'_>) -> Parsed<TokenStream>
     }
 }
 
-/// Reads and writes a mark, and all that is left.
+/// Reads and writes a mark, and copies all that is left.
 #[tactic(auto, using(crate::proofs::Copied::rest_more, crate::proofs::Copied::rest_none, crate::proofs::Copied::rest_not))]
 fn copy_rest(mark: Mark, out: &mut Writer, input: &mut ParseBuffer<'_>) -> Parsed<()>
     ensures { Runs IsSyntax (copy_form (grammar.rest_after (mark_text mark)) out.old input.old) result out.new input.new }
@@ -569,7 +568,7 @@ fn read_value<'a>(
     Ok(())
 }
 
-/// Reads the first form where a group in braces was read last, from there on, else the second.
+/// Reads the first form if the last token tree since then is a group in braces, else the second.
 #[tactic(auto, using(crate::proofs::Todo::push))]
 fn read_by_braces<'a>(
     one: &'static Form,

@@ -1,4 +1,4 @@
-//! The name of a parameter, which is supplied where none is written.
+//! The name of a parameter, which is supplied where it is left out.
 ghost use Rattle.std.specs.Prelude.{◌≡◌, true, OnOk};
 ghost use Rattle.syn_grammar.specs.Tokens.{Before_less};
 ghost use Rattle.syn_grammar.specs.Grammar.{at_unnamed};
@@ -21,12 +21,12 @@ use syn_parse::buffer::ParseBuffer;
 use syn_parse::read::refusal::Parsed;
 use syn_tokens::punct::Spacing;
 
-/// What stands behind the name of a parameter and its colon.
+/// What follows the name of a parameter and its colon.
 #[derive(Clone, Copy)]
 pub enum Nameless {
     /// A type.
     Argument,
-    /// `...`, or a type and the parameters behind it.
+    /// `...`, or a type and the parameters after it.
     Input,
 }
 
@@ -49,7 +49,7 @@ static INPUT: Form = Form::When(
     ),
 );
 
-/// What stands behind the name and its colon, as a form.
+/// What follows the name and its colon, as a form.
 #[tactic(auto, unfolding(crate::specs::Names::rule_of))]
 fn typed(nameless: Nameless) -> &'static Form
     ensures { grammar_of result.now ≡ typed_form nameless }
@@ -60,7 +60,7 @@ fn typed(nameless: Nameless) -> &'static Form
     }
 }
 
-/// Reads a pattern, a colon and what stands behind them. Where a name stands before `<`, this stands alone, and `_ :` is written before it.
+/// Reads a pattern, a colon and what follows them. Where a name is before `<`, reads only what follows, and writes `_ :` before it.
 #[tactic(auto, unfolding(crate::specs::Names::rule_of))]
 pub(crate) fn read_supplied<'a>(
     nameless: Nameless,
@@ -81,7 +81,7 @@ pub(crate) fn read_supplied<'a>(
     Ok(())
 }
 
-/// Writes `_ :`, with the span of the name that stands next.
+/// Writes `_ :`, with the span of the name that is next.
 #[tactic(auto, unfolding(syn_tokens::specs::Punct::is_punct_character))]
 fn write_unnamed(out: &mut Writer, input: &ParseBuffer<'_>) -> Result<(), AllocError>
     requires { sees (at_unnamed Before_less) input.now ≡ true }

@@ -53,7 +53,7 @@ pub enum Token {
     Index,
 }
 
-/// What is read as a token, and printed as it is shown.
+/// A token that is printed as it is shown.
 pub(crate) trait Leaf: Read + Print + Drop {
     ghost use Rattle.std.specs.Prelude.{◌≡◌, Some};
     ghost use Rattle.syn_grammar.specs.Tokens.{Stream};
@@ -104,7 +104,7 @@ pub(crate) fn copy_token(token: Token, out: &mut Writer, input: &mut ParseBuffer
     }
 }
 
-/// Reads and writes the word of this text; where it doesn't stand, this is said.
+/// Reads and writes the word with this text; reports `expected` if another token is next.
 #[tactic(auto, using(crate::proofs::Writes::word_is))]
 pub(crate) fn copy_text(
     text: &'static str,
@@ -121,7 +121,7 @@ pub(crate) fn copy_text(
     Ok(())
 }
 
-/// Reads and writes the mark of this character; where it doesn't stand, this is said.
+/// Reads and writes the mark of this character; reports `expected` if another token is next.
 #[tactic(auto, using(crate::proofs::Writes::one_is))]
 pub(crate) fn copy_mark1(
     c: char,
@@ -137,7 +137,7 @@ pub(crate) fn copy_mark1(
     Ok(())
 }
 
-/// Reads and writes the mark of these characters; where it doesn't stand, this is said.
+/// Reads and writes the mark of these characters; reports `expected` if another token is next.
 #[tactic(auto, using(crate::proofs::Writes::two_are))]
 pub(crate) fn copy_mark2(
     c: char,
@@ -156,7 +156,7 @@ pub(crate) fn copy_mark2(
     Ok(())
 }
 
-/// Reads and writes the mark of these characters; where it doesn't stand, this is said.
+/// Reads and writes the mark of these characters; reports `expected` if another token is next.
 #[tactic(auto, using(crate::proofs::Writes::three_are))]
 pub(crate) fn copy_mark3(
     c: char,
@@ -225,7 +225,7 @@ fn is_self_type(ident: &Ident) -> bool
     ident.is("Self")
 }
 
-/// Whether it is a keyword that a path may begin with alone.
+/// Whether it is a keyword that may be a path's first segment by itself.
 fn is_path_start(ident: &Ident) -> bool
     ensures { result ≡ one_of_texts ident.now.text (w_self ∷ w_super ∷ w_crate ∷ []) }
 {
@@ -335,7 +335,7 @@ fn copy_str(out: &mut Writer, input: &mut ParseBuffer<'_>) -> Parsed<()>
     Ok(())
 }
 
-/// The number of a field: decimal digits without a leading zero, of at most 2^32 - 1.
+/// The number of a field: decimal digits without a leading zero, at most 2^32 - 1.
 #[tactic(auto, using(crate::specs::Leaves::token_is_leaf, crate::proofs::Numbers::index_taken, crate::proofs::Numbers::no_index_taken, crate::proofs::Numbers::no_integer_taken, crate::proofs::Numbers::no_literal_taken))]
 fn copy_index(out: &mut Writer, input: &mut ParseBuffer<'_>) -> Parsed<()>
     ensures { Copies IsSyntax out.old (take_token index input.old) result out.new input.new }

@@ -109,7 +109,7 @@ pub enum Mark {
     StarEq,
 }
 
-/// Whether this word stands next.
+/// Whether this word is next.
 pub(crate) fn at_word(word: Word, input: &ParseBuffer<'_>) -> bool
     ensures { result ≡ sees (grammar.at_word (word_text word)) input.now }
 {
@@ -157,7 +157,7 @@ pub(crate) fn at_word(word: Word, input: &ParseBuffer<'_>) -> bool
     }
 }
 
-/// Whether this mark stands next.
+/// Whether this mark is next.
 pub(crate) fn at_mark(mark: Mark, input: &ParseBuffer<'_>) -> bool
     ensures { result ≡ sees (grammar.at_mark (mark_text mark)) input.now }
 {
@@ -303,7 +303,7 @@ pub(crate) fn copy_mark(mark: Mark, out: &mut Writer, input: &mut ParseBuffer<'_
     }
 }
 
-/// What is said where this word is expected at the end.
+/// The error message where this word is expected at the end.
 pub(crate) fn word_at_end(word: Word) -> &'static str {
     match word {
         Word::As => "unexpected end of input, expected `as`",
@@ -349,7 +349,7 @@ pub(crate) fn word_at_end(word: Word) -> &'static str {
     }
 }
 
-/// What is said where this mark is expected at the end.
+/// The error message where this mark is expected at the end.
 pub(crate) fn mark_at_end(mark: Mark) -> &'static str {
     match mark {
         Mark::And => "unexpected end of input, expected `&`",
@@ -395,7 +395,7 @@ pub(crate) fn mark_at_end(mark: Mark) -> &'static str {
     }
 }
 
-/// Whether this word is a keyword, and no word that is one at some places alone.
+/// Whether this word is a keyword everywhere, and not a contextual one.
 pub(crate) fn is_known(word: Word) -> bool
     ensures { result ≡ one_of_texts (word_text word) keywords }
 {
@@ -491,7 +491,7 @@ pub(crate) fn first_of(mark: Mark) -> char
     }
 }
 
-/// Whether this mark has one character alone.
+/// Whether this mark is a single character.
 pub(crate) fn is_one(mark: Mark) -> bool
     ensures { result ≡ may.is_one (mark_text mark) }
 {

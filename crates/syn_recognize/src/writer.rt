@@ -1,4 +1,4 @@
-//! What is written.
+//! The output of a reading.
 ghost use Rattle.std.specs.Prelude.{◌≡◌, true, false, None, OnOk};
 ghost use Rattle.syn_grammar.specs.Tokens.{ident, leaf, punct, end};
 ghost use Rattle.syn_tokens.specs.Punct.{is_joint, is_punct_character};
@@ -27,18 +27,18 @@ use syn_tokens::span::Span;
 use syn_tokens::stream::TokenStream;
 use syn_tokens::stream::builder::StreamBuilder;
 
-/// The tokens that were written, where what is written isn't dropped.
+/// The tokens written so far, unless the output is dropped.
 #[derive(Drop)]
 pub struct Writer {
-    /// None where what is written is dropped.
+    /// None where the output is dropped.
     out: Option<StreamBuilder>,
     /// Whether lists are written with their lifetimes first.
     printing: bool,
-    /// Whether it is noted how lists and plans are; then what is written is dropped.
+    /// Whether notes on lists and plans are taken; then the output is dropped.
     noting: bool,
-    /// What is noted, or what was.
+    /// The notes that are taken, or were.
     notes: Notes,
-    /// Whether what was guessed of a list or a plan was wrong.
+    /// Whether a guess about a list or a plan was wrong.
     mistaken: bool,
     alloc: Global,
 }
@@ -54,7 +54,7 @@ impl Model for Writer {
 }
 
 impl Writer {
-    /// Nothing was written yet; trees are written as they are shown, with what was noted of them. What grows takes its memory from `alloc`.
+    /// An empty output of trees as they are shown, with these notes on them. Allocates from `alloc`.
     pub(crate) fn showing(alloc: Global, notes: Notes) -> Writer
         ensures { result ≡ blank false }
     {
@@ -68,7 +68,7 @@ impl Writer {
         }
     }
 
-    /// Nothing was written yet; trees are written as they are printed, with what was noted of them.
+    /// An empty output of trees as they are printed, with these notes on them.
     pub(crate) fn printing(alloc: Global, notes: Notes) -> Writer
         ensures { result ≡ blank true }
     {
@@ -82,7 +82,7 @@ impl Writer {
         }
     }
 
-    /// What is written is dropped.
+    /// An output that is dropped.
     pub(crate) fn dropping(alloc: Global) -> Writer
         ensures { result ≡ unwritten }
     {
@@ -96,7 +96,7 @@ impl Writer {
         }
     }
 
-    /// What is written is dropped, and it is noted how lists and plans are.
+    /// An output that is dropped, while notes on lists and plans are taken.
     pub(crate) fn noting(alloc: Global) -> Writer
         ensures { result ≡ unwritten }
     {
@@ -117,19 +117,19 @@ impl Writer {
         self.printing
     }
 
-    /// Whether what is written is dropped.
+    /// Whether the output is dropped.
     pub(crate) fn is_dropping(&self) -> bool
         ensures { result ≡ drops self.now }
     {
         self.out.is_none()
     }
 
-    /// Whether it is noted how lists and plans are.
+    /// Whether notes on lists and plans are taken.
     pub(crate) fn is_noting(&self) -> bool {
         self.noting
     }
 
-    /// One more list has another member than lifetimes: its number.
+    /// Begins the notes of one more list with another member than lifetimes; returns its number.
     pub(crate) fn begin_list(&mut self) -> Result<usize, AllocError>
         ensures { self.new ≡ self.old }
     {
@@ -143,15 +143,15 @@ impl Writer {
         self.notes.note(list, late)
     }
 
-    /// What was noted of the next list.
+    /// Takes the notes of the next list.
     pub(crate) fn noted(&mut self) -> Vec<Late>
         ensures { self.new ≡ self.old }
     {
         self.notes.next_list()
     }
 
-    /// What is guessed of the next plan: what was noted of it; where nothing was, that it isn't kept, and that nothing would be read as
-    /// generics. Where it is to be noted, its number. Refused only where memory is.
+    /// The guess for the next plan: its notes; without notes, that it isn't stored verbatim, and that nothing would be read as generics.
+    /// With its number, if notes are taken. Fails only where memory is refused.
     pub(crate) fn guess(&mut self) -> Parsed<Guess>
         ensures fair { OrMemory IsSyntax result (λ guess. Fair self.old.printing guess.leads) }
         ensures unchanged { self.new ≡ self.old }
@@ -172,14 +172,14 @@ impl Writer {
         })
     }
 
-    /// What is guessed of the generics of an impl: this where trees are written as they are printed, else nothing.
+    /// The guess for the generics of an impl: this where trees are written as they are printed, else none.
     fn guessed(&self, leads: bool) -> Option<bool>
         ensures { Fair self.now.printing result }
     {
         if self.printing { Some(leads) } else { None }
     }
 
-    /// What was guessed of a list or a plan was wrong: refuses as where memory is, and remembers it.
+    /// Records that a guess about a list or a plan was wrong, and returns `Refusal::Memory`.
     pub(crate) fn wrong_guess(&mut self) -> Refusal
         ensures memory { result ≡ Memory None }
         ensures unchanged { self.new ≡ self.old }
@@ -188,20 +188,19 @@ impl Writer {
         Refusal::Memory(None)
     }
 
-    /// Whether what was guessed of a list or a plan was wrong.
+    /// Whether a guess about a list or a plan was wrong.
     pub(crate) fn is_mistaken(&self) -> bool {
         self.mistaken
     }
 
-    /// Notes that what the plan of this number reads is kept as tokens.
+    /// Notes that the tokens of the plan of this number are stored verbatim.
     pub(crate) fn note_kept(&mut self, plan: usize)
         ensures { self.new ≡ self.old }
     {
         self.notes.note_kept(plan);
     }
 
-    /// Notes that what stands behind the generics of the impl that the plan of this number reads, or its self type, would be read as
-    /// generics.
+    /// Notes that the tokens after the generics of this plan's impl, or its self type, would be read as generics.
     pub(crate) fn note_lead(&mut self, plan: Option<usize>)
         ensures { self.new ≡ self.old }
     {
@@ -210,7 +209,7 @@ impl Writer {
         }
     }
 
-    /// Writes a token. Refused, it says nothing of what was written.
+    /// Writes a token. On failure nothing is known of the output.
     #[tactic(auto, using(crate::proofs::Writes::leaf_is))]
     pub(crate) fn write<T: Print>(&mut self, token: &T) -> Result<(), AllocError>
         requires { IsLeaf (T.syntax token.now) }
@@ -222,7 +221,7 @@ impl Writer {
         }
     }
 
-    /// Writes the word of this text. Refused, it says nothing of what was written.
+    /// Writes the word of this text. On failure nothing is known of the output.
     #[tactic(auto, using(syn_tokens::specs::Spelled::word_is_identifier, crate::proofs::Writes::adds_is))]
     pub(crate) fn write_word(&mut self, text: &str, span: Span) -> Result<(), AllocError>
         requires { is_plain_word text.now ≡ true }
@@ -234,7 +233,7 @@ impl Writer {
         }
     }
 
-    /// Writes one character of a mark. Refused, it says nothing of what was written.
+    /// Writes one character of a mark. On failure nothing is known of the output.
     #[tactic(auto, using(crate::proofs::Writes::adds_is))]
     pub(crate) fn write_punct(
         &mut self,
@@ -251,7 +250,7 @@ impl Writer {
         }
     }
 
-    /// Writes these token trees, as they are; refused, it leaves all as it was.
+    /// Writes these token trees unchanged; on failure the output is unchanged.
     #[tactic(auto, using(crate::proofs::Writes::adds_is))]
     pub(crate) fn append(&mut self, tokens: &TokenStream) -> Result<(), AllocError>
         ensures { OnOk result (self.new ≡ adds self.old tokens.now) }
@@ -262,7 +261,7 @@ impl Writer {
         }
     }
 
-    /// Goes into a group; refused, it leaves all as it was.
+    /// Enters a group; on failure the output is unchanged.
     #[tactic(auto, using(syn_tokens::proofs::Prints::opened_group, crate::proofs::Writes::enters_is))]
     pub(crate) fn open(&mut self, delimiter: Delimiter, opening: Span) -> Result<(), AllocError>
         ensures { OnOk result (self.new ≡ enters (delimiter_of delimiter) (at opening) self.old) }
@@ -273,7 +272,7 @@ impl Writer {
         }
     }
 
-    /// Goes out of the innermost open group, which has these delimiters; refused, it leaves all as it was.
+    /// Leaves the innermost open group, which has these delimiters; on failure the output is unchanged.
     #[tactic(auto, using(crate::proofs::Writes::group_closed, crate::proofs::Writes::leaves_is))]
     pub(crate) fn close(&mut self, delimiter: Delimiter, closing: Span) -> Result<(), AllocError>
         ensures { OnOk result (self.new ≡ leaves (at closing) self.old) }
@@ -287,7 +286,7 @@ impl Writer {
         }
     }
 
-    /// Writes nothing, so that what follows is written aside, as it is printed. Answers what was written so far.
+    /// Sets the output aside: what follows is written aside, as it is printed. Returns the output so far.
     pub(crate) fn print_aside(&mut self) -> Parsed<Box<Writer>>
         ensures before { OrMemory IsSyntax result (λ before. before.value ≡ self.old) }
         ensures blank { OrMemory IsSyntax result (λ before. self.new ≡ blank true) }
@@ -297,7 +296,7 @@ impl Writer {
         Ok(Box::new(self.alloc, before)?)
     }
 
-    /// Drops what is written from here on. Answers what was written so far.
+    /// Drops what is written from here on. Returns the output so far.
     pub(crate) fn drop_aside(&mut self) -> Parsed<Box<Writer>>
         ensures before { OrMemory IsSyntax result (λ before. before.value ≡ self.old) }
         ensures dropping { OrMemory IsSyntax result (λ before. self.new ≡ unwritten) }
@@ -307,7 +306,7 @@ impl Writer {
         Ok(Box::new(self.alloc, before)?)
     }
 
-    /// Goes on with what was written before, and answers what was written aside.
+    /// Restores the output that was set aside, and returns what was written aside.
     pub(crate) fn put_back(&mut self, before: Box<Writer>) -> Parsed<TokenStream>
         ensures aside { OrMemory IsSyntax result (λ aside. aside ≡ stream_of self.old) }
         ensures before { OrMemory IsSyntax result (λ aside. self.new ≡ before.value) }
@@ -317,7 +316,7 @@ impl Writer {
         Ok(tokens)
     }
 
-    /// What was written, and what was noted. Refused where a group is still open, which none ever is, as memory is.
+    /// The tokens written, and the notes taken. Returns `Refusal::Memory` where a group is still open, which never happens.
     pub(crate) fn finish(self) -> Parsed<(TokenStream, Notes)>
         ensures { OrMemory IsSyntax result (λ done. done.0 ≡ stream_of self) }
     {

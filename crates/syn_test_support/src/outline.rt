@@ -2,6 +2,7 @@
 
 mod exprs;
 mod items;
+mod kinds;
 mod members;
 mod ops;
 mod parts;

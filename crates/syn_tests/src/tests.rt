@@ -15,7 +15,7 @@ mod handmade_items;
 mod handmade_types;
 mod invisible;
 mod item_conversions;
-mod items_behind;
+mod items_after_visibility;
 mod literals;
 mod members;
 mod modifiers;

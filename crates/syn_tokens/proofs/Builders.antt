@@ -1,4 +1,4 @@
--- What the calls of a builder leave.
+-- The states that the calls of a builder leave.
 use Rattle.std.proofs.Common.{◌≡◌, ℕ, true, ◌+◌, ◌-◌, ◌≤◌, List, [], ◌∷◌, ◌++◌, length, length-append, refl, sym, subst, ap, ◌∙◌, set, take, arith}
 use Rattle.std.proofs.lemmas.List.{take-append-le, take-set-le, take_all}
 use Rattle.syn_grammar.specs.Tokens.{Stream, end, group, ◌⧺◌}
@@ -41,7 +41,7 @@ module _ (m k : ℕ) (es : List Entry) (a : IsBegun m k es) where
   pub begun_fits : (ps : List Pending) (n : ℕ) → IsBuilt es ps n → m ≤ length es
   begun_fits ps n b = omega (arith, a.within, front_fits (groups_in es) (stream_in es), ap length b.encoded)
 
-  -- it stays as it was in other entries, which begin with it
+  -- it is unchanged in longer entries that start with the same
   begun_on : (fs : List Entry) (gs : List OpenGroup) (s : Stream) → fs ≡ laid gs s → take m fs ≡ take m es →
       length (encode (front (groups_in es) (stream_in es))) ≤ length (encode (front gs s)) → IsBegun m k fs
   begun_on fs gs s e same l =
@@ -58,7 +58,7 @@ module _ (m k : ℕ) (es : List Entry) (a : IsBegun m k es) where
       building m fs ≡ record (building m es) { open_groups = gs; stream = s }
   building_on fs gs s e same = λ i. record { before = decode (same i); open_groups = groups_are fs gs s e i; stream = stream_is fs gs s e i }
 
--- it is a stream alone
+-- a stream is a builder without open groups
 pub begun_flat : (es : List Entry) (n : ℕ) → IsFlat es n → IsBuilt es [] n
 begun_flat es n f = is_built es [] n [] (decode es) f.encoded refl f.counted
 
@@ -175,7 +175,7 @@ module _ (es : List Entry) (ps : List Pending) (n : ℕ) (b : IsBuilt es ps n) (
   whole : es ≡ laid ((kept_last es ps n b around p e).around ++ (kept_last es ps n b around p e).innermost ∷ []) (stream_in es)
   whole = let l = kept_last es ps n b around p e in b.encoded ∙ ap (λ gs. laid gs (stream_in es)) l.is
 
-  -- its opening delimiter stands before all that came later
+  -- its opening delimiter comes before all that was added later
   pub stands_before : p.at + 1 ≤ length es
   stands_before =
       let l = kept_last es ps n b around p e in

@@ -80,7 +80,7 @@ places_open n (h ∷ gs) g =
     ap (λ ps. pending (n + length (encode h.outer)) h ∷ ps) (places_open (n + length (encode h.outer) + 1) gs g)
     ∙ ap (λ m. pending (n + length (encode h.outer)) h ∷ (places (n + length (encode h.outer) + 1) gs ++ pending m g ∷ [])) k
 
--- the innermost open group, from where it is kept
+-- the innermost open group, from its stored form
 pub record Last (n : ℕ) (gs : List OpenGroup) (ps : List Pending) (p : Pending) : Type 0 where
   pub around : List OpenGroup
   pub innermost : OpenGroup
@@ -108,7 +108,7 @@ last_place n (g ∷ h ∷ gs) (q ∷ ps) p e =
       here = r.here ∙ ap (λ m. pending m r.innermost) k;
     }
 
--- no open group is kept where none is open
+-- if no open group is stored, none is open
 pub none_open : (n : ℕ) (gs : List OpenGroup) → [] ≡ places n gs → gs ≡ []
 none_open n [] e = refl
 none_open n (g ∷ gs) e = absurd (cc)
@@ -138,6 +138,6 @@ laid_closed gs g c s =
     ∙ ap (λ es. laid gs g.outer ++ es) (delimited g c s)
     ∙ laid_more gs g.outer (closed g c s)
 
--- so many entries, with those of the innermost open group behind its delimiter
+-- so many entries, with those of the innermost open group after its delimiter
 pub length_laid : (gs : List OpenGroup) (g : OpenGroup) (s : Stream) → length (laid (gs ++ g ∷ []) s) ≡ length (laid gs g.outer) + 1 + length (encode s)
 length_laid gs g s = omega (arith, ap length (laid_open gs g s), length-append (laid gs g.outer) (open_delimiter g ∷ encode s))

@@ -1,4 +1,4 @@
--- Marks and lists, compared where spans don't count.
+-- Comparisons of marks and lists, ignoring spans.
 use Rattle.std.proofs.Common.{◌≡◌, suc, Bool, true, false, ◌&&◌, List, [], ◌∷◌, length, refl, sym, ap, ◌∙◌, arith}
 use Rattle.std.specs.Prelude.{◌==◌, Option, Some, None}
 use Rattle.std.specs.List.{list_all, zip}
@@ -22,7 +22,7 @@ same_placed (c ∷ x) (s ∷ l) [] e = absurd (omega arith)
 same_placed (c ∷ x) (s ∷ l) (t ∷ m) e = and_both (eq-eqb c c refl) (same_placed x l m (omega arith))
 
 module _ {T : Type 0} (v : T → Syntax) where
-  -- values are compared by going over both lists at once
+  -- values are compared by iterating over both lists at once
   pub same_zipped : (l m : List T) → length l ≡ length m → list_all (λ (p : T × T). same_syntax (v p.0) (v p.1)) (zip l m) ≡ same_syntax (in_order v l) (in_order v m)
   same_zipped [] [] e = refl
   same_zipped [] (y ∷ m) e = absurd (omega arith)

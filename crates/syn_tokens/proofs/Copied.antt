@@ -1,11 +1,11 @@
--- Lists whose values stand for the same in turn.
+-- Lists whose values represent the same syntax in order.
 use Rattle.std.proofs.Common.{◌≡◌, List, [], ◌∷◌, map, Option, Some, None, refl, sym, ap, ap₂, ◌∙◌}
 use Rattle.std.specs.Option.{option_map}
 use Rattle.syn_grammar.specs.Grammar.{Syntax, Nothing, Node, Left, Right, Both}
 use Rattle.syn_tokens.specs.InOrder.{in_order, pair_of}
 use Rattle.syn_tokens.specs.Listing.{listed, list_of, joined_of, untagged}
 
--- values in order stand for what they stand for alone
+-- values in order represent what they represent alone
 in_order_of : {T : Type 0} (v : T → Syntax) (l : List T) → in_order v l ≡ in_order (λ s. s) (map v l)
 in_order_of v [] = refl
 in_order_of v (x ∷ l) = ap (Both (v x)) (in_order_of v l)

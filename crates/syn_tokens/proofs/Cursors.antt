@@ -1,4 +1,4 @@
--- The group that an opening delimiter begins.
+-- The group that an opening delimiter starts.
 use Rattle.std.proofs.Common.{◌≡◌, ℕ, suc, ◌-◌, List, [], ◌∷◌, ◌++◌, length, refl, sym, ap, ◌∙◌, arith}
 use Rattle.syn_grammar.specs.Tokens as grammar
 use Rattle.syn_grammar.specs.Tokens.{ident, literal, Stream, end, leaf, punct, group}
@@ -16,7 +16,7 @@ use Rattle.syn_tokens.specs.declared.stream.entry.Token.TheVariants as E
 abbrev closing_of : grammar.Delimiter → grammar.Span → ℕ → Close
 closing_of d c n = record { delimiter = delimiter_from d; span = from c; trees = n }
 
--- what stands behind an opening delimiter
+-- what follows an opening delimiter
 record Begins (o : Open) (rest : List Entry) (ts : Stream) : Type 0 where
   pub inner : Stream
   pub after : Stream
@@ -43,13 +43,13 @@ begins o rest (group d p c i m) h = record {
       ap (λ f. group f p c i m) (sym (delimiter_back d)) ∙ ap (λ (q : Open). group (delimiter_of q.delimiter) (at q.span) c i m) (sym e);
 }
 
--- its closing delimiter stands where it says
+-- its closing delimiter is where it says
 pub closes : (o : Open) (rest : List Entry) (n : ℕ) → IsFlat (E.Open o ∷ rest) n → Closes rest o.skip
 closes o rest n flat =
     let b = begins o rest (decode (E.Open o ∷ rest)) flat.encoded in
     record { content = encode b.inner; closing = b.closing; rest = encode b.after; is = b.whole; long = b.skip }
 
--- two lists that are cut at the same place
+-- two lists that are split at the same index
 cut_left : (ws xs ys zs : List Entry) → ws ++ xs ≡ ys ++ zs → length ws ≡ length ys → ws ≡ ys
 cut_left [] xs [] zs e h = refl
 cut_left [] xs (c ∷ ys) zs e h = absurd (omega arith)
@@ -67,7 +67,7 @@ cut_right (a ∷ ws) xs (c ∷ ys) zs e h =
     let rest : ws ++ xs ≡ ys ++ zs = cc in
     cut_right ws xs ys zs rest (omega arith)
 
--- the group, from where it is cut
+-- the group, from where its entries are split
 pub record Found (o : Open) (rest : List Entry) (n : ℕ) (content : List Entry) (c : Close) (after : List Entry) : Type 0 where
   pub inside : IsFlat content c.trees
   pub behind : IsFlat after (n - 1)

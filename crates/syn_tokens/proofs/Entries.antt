@@ -60,7 +60,7 @@ states_back (group d o c i m) es =
     ∙ ap (λ e. record { trees = group e o c (i ⧺ end) (m ⧺ (states es).trees); outer = (states es).outer; opened = (states es).opened }) (delimiter_back d)
     ∙ ap (λ j. record { trees = group d o c j (m ⧺ (states es).trees); outer = (states es).outer; opened = (states es).opened }) (append_end i)
 
--- the entries of a stream stand for that stream
+-- the entries of a stream represent that stream
 pub decode-encode : (ts : Stream) → decode (encode ts) ≡ ts
 decode-encode ts = ap decode (sym (append-nil (encode ts))) ∙ ap (λ s. s.trees) (states_back ts []) ∙ append_end ts
 
@@ -70,7 +70,7 @@ decoded es ts e = ap decode e ∙ decode-encode ts
 pub is_flat : (es : List Entry) (ts : Stream) (n : ℕ) → es ≡ encode ts → n ≡ count.length ts → IsFlat es n
 is_flat es ts n e c = record { encoded = e ∙ ap encode (sym (decoded es ts e)); counted = c ∙ ap count.length (sym (decoded es ts e)) }
 
--- ONE BEHIND ANOTHER
+-- ONE AFTER ANOTHER
 
 pub encode-append : (ts us : Stream) → encode (ts ⧺ us) ≡ encode ts ++ encode us
 encode-append end us = refl

@@ -1,10 +1,10 @@
--- The first few of a list that grows.
+-- The first few elements of a growing list.
 use Rattle.std.proofs.Common.{◌≡◌, ℕ, zero, suc, ◌+◌, ◌<◌, ◌≤◌, List, [], ◌∷◌, ◌++◌, length, get_or, map, take, refl, sym, ap, ◌∙◌, append_assoc, append-nil}
 use Rattle.std.proofs.lemmas.List.{map_more, take_all}
 use Rattle.syn_tokens.specs.declared.error.Fault.{Fault}
 use Rattle.syn_tokens.specs.Faults.{FaultValue, fault_of}
 
--- of what the first few were kept of, the first few are the same
+-- truncating a list before it grows doesn't change its first elements
 take_take-append : {A : Type 0} (n : ℕ) (xs ys : List A) → take n (take n xs ++ ys) ≡ take n (xs ++ ys)
 take_take-append zero xs ys = refl
 take_take-append (suc n) [] ys = refl

@@ -1,4 +1,4 @@
--- Whether a group stands first in a stream is told by its first entry.
+-- The first entry decides whether a group comes first in a stream.
 use Rattle.std.proofs.Common.{◌≡◌, Bool, true, false, List, ◌∷◌, length, Some, refl, sym, ap, ◌∙◌}
 use Rattle.syn_grammar.specs.Tokens.{ident, literal, Stream, end, leaf, punct, group}
 use Rattle.syn_grammar.specs.Take.{only, taken, take_group, same_delimiter}

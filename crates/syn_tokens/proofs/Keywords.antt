@@ -51,7 +51,7 @@ abbrev in_row : Text → Bool
 in_row [] = false
 in_row (c ∷ cs) = one_of_texts (c ∷ cs) (keywords_from c)
 
--- a keyword stands in its row, and in the rows stand keywords alone
+-- a keyword is in its row, and the rows hold only keywords
 keyword_in_row : (x : Text) → is_keyword x ≡ true → in_row x ≡ true
 unfolding is_keyword keywords_from
 keyword_in_row x e = found_passes in_row x keywords refl e
@@ -74,7 +74,7 @@ keyword_is : (c : ℕ) (cs : Text) → one_of_texts (c ∷ cs) (keywords_from c)
 keyword_is c cs =
     same_truth _ _ (found_passes is_keyword (c ∷ cs) (keywords_from c) (all_keywords c)) (keyword_in_row (c ∷ cs))
 
--- a text is a keyword where it stands in the row of its first byte
+-- a text is a keyword if it is in the row of its first byte
 pub in_row_is : (text : Text) (c : ℕ) → Some c ≡ slice_get text 0 → (row : List Text) → row ≡ keywords_from c → one_of_texts text row ≡ is_keyword text
 in_row_is [] c e row f = cc
 in_row_is (x ∷ xs) c e row f = let g : c ≡ x = cc in ap (one_of_texts (x ∷ xs)) (f ∙ ap keywords_from g) ∙ keyword_is x xs

@@ -39,7 +39,7 @@ next_character (a ∷ x) (b ∷ l) (suc i) c s e h =
     next_character x l i c s (omega arith) (omega arith)
     ∙ (λ k. punct (get_or x i c) (sym (one_less i (length x)) k) (at (get_or l i s)) (spell (dropped (a, at b) (placed x l) i k) end))
 
--- each is one that marks are made of
+-- each of them is a character of marks
 pub each_printable : (x : Text) (i c : ℕ) → all_punct x ≡ true → i < length x → IsTrue (is_punct_character (get_or x i c))
 each_printable [] i c a h = absurd (omega arith)
 each_printable (d ∷ x) zero c a h = and_left _ _ a

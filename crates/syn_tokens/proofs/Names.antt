@@ -7,7 +7,7 @@ use Rattle.std.proofs.lemmas.Str.{chars_past_char, IsUtf8-past_char, chars-nil}
 use Rattle.unicode_ident.specs.Ident.{is_xid_continue}
 use Rattle.syn_tokens.specs.Idents.{may_start, is_name}
 
--- what is left to look at decides
+-- the remaining characters decide the result
 pub record LooksOn (text rest : List ℕ) : Type 0 where
   pub utf8 : IsUtf8 rest
   pub same : list_all is_xid_continue (chars rest) ≡ list_all is_xid_continue (chars text)

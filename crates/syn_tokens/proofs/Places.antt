@@ -1,4 +1,4 @@
--- Trees by their places.
+-- Trees by their indices.
 use Rattle.std.proofs.Common.{◌≡◌, ℕ, zero, suc, ◌-◌, ◌≤◌, List, ◌∷◌, ◌++◌, length, length-append, take, min, refl, sym, ap, ◌∙◌, append_assoc, arith}
 use Rattle.std.proofs.lemmas.List.{take_at}
 use Rattle.syn_grammar.specs.Tokens.{Stream, end, leaf, punct, group}
@@ -31,7 +31,7 @@ after_end : (n : ℕ) → after n end ≡ end
 after_end zero = refl
 after_end (suc n) = refl
 
--- nothing stands behind the end
+-- nothing follows the end
 pub after_ended : (n k : ℕ) (ts : Stream) → after n ts ≡ end → n ≤ k → after k ts ≡ end
 after_ended zero k ts e h = ap (after k) e ∙ after_end k
 after_ended (suc n) zero ts e h = absurd (omega arith)
@@ -57,7 +57,7 @@ length_first (suc n) (leaf x sp m) = omega (arith, length_first n m)
 length_first (suc n) (punct c j sp m) = omega (arith, length_first n m)
 length_first (suc n) (group d o c i m) = omega (arith, length_first n m)
 
--- the tree at a place stands first behind those before it
+-- the tree at an index is the first after those before it
 pub place_is : (n : ℕ) (ts : Stream) (x : TokenTreeRef) (r : Stream) → after n ts ≡ before_next x r → place n ts ≡ before_next x end
 place_is n ts x r e = go n ts ∙ ap (place 0) e ∙ one x r
   where
@@ -91,6 +91,6 @@ front_is n ts es rest e f =
     omega (arith, ap length e, ap length f, ap length (encode_first n ts), length-append (encode (grammar.first n ts)) (encode (after n ts))) in
     ap (take (length es - length rest)) (e ∙ encode_first n ts) ∙ take_at (encode (grammar.first n ts)) (encode (after n ts)) (length es - length rest) long
 
--- and where they are found from their number alone
+-- and these entries, from their number alone
 pub cut_first : (n : ℕ) (ts : Stream) (es : List Entry) (k : ℕ) → es ≡ encode ts → k ≡ length (encode (grammar.first n ts)) → take k es ≡ encode (grammar.first n ts)
 cut_first n ts es k e h = ap (take k) (e ∙ encode_first n ts) ∙ take_at (encode (grammar.first n ts)) (encode (after n ts)) k (sym h)

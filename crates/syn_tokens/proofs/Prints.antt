@@ -1,4 +1,4 @@
--- What prints that follow each other leave.
+-- The effect of several prints in sequence.
 use Rattle.std.proofs.Common.{◌≡◌, true, List, ◌∷◌, ◌++◌, [], refl, sym, ap, ◌∙◌}
 use Rattle.syn_grammar.specs.Tokens as grammar
 use Rattle.syn_grammar.specs.Tokens.{Stream, end, group, ◌⧺◌}
@@ -34,7 +34,7 @@ pub before_group : (c : grammar.Span) (b : Building) → (out_of_group c b).befo
 unfolding out_of_group
 before_group c b = closed_before b.before b.open_groups c b.stream
 
--- a group with what was added inside of it
+-- a group with the tokens that were added inside of it
 pub added_group : (d : grammar.Delimiter) (o c : grammar.Span) (b : Building) (s : Stream) → out_of_group c (added (into_group d o b) s) ≡ added b (group d o c s end)
 unfolding added into_group out_of_group
 added_group d o c b s =
@@ -53,7 +53,7 @@ pub open_still : (b : Building) (s : Stream) → is_open (added b s) ≡ is_open
 unfolding added is_open
 open_still b s = refl
 
--- for prints of parts that follow each other, and for those of groups
+-- prints of parts in sequence, and prints of groups
 pub ruleset prints = (added_more, added_none, append_append, append_end)
 
 pub ruleset groups = (prints, added_group, added_empty, open_inside, open_still)

@@ -18,11 +18,11 @@ module _ {T P : Type 0} (v : T → Syntax) (w : P → Syntax) where
   joined_row [] (Some t) = append_end (print (v t))
   joined_row (x ∷ l) o = ap (λ z. print (v x.0) ⧺ (print (w x.1) ⧺ z)) (joined_row l o)
 
-  -- what is left of a list, one step on
+  -- the rest of a list, one step on
   pub row_step : (l : List (T × P)) (o : Option T) (i : ℕ) (d : T × P) → i < length l →
       row v w (drop i l) o ≡ print (v (get_or l i d).0) ⧺ (print (w (get_or l i d).1) ⧺ row v w (drop (i + 1) l) o)
   row_step l o i d h = at_drop_more (λ m. row v w m o) l i d h
 
-  -- nothing is left of the pairs
+  -- no pairs remain
   pub row_done : (l : List (T × P)) (o : Option T) (i : ℕ) → length l ≤ i → row v w (drop i l) o ≡ row v w [] o
   row_done l o i h = ap (λ m. row v w m o) (drop_all i l h)

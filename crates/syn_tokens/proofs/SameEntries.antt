@@ -1,4 +1,4 @@
--- Streams are the same where their entries are.
+-- Streams are the same if their entries are.
 use Rattle.std.proofs.Common.{◌≡◌, ℕ, suc, Bool, true, false, ◌&&◌, List, [], ◌∷◌, ◌++◌, length, nat_eq, refl, sym, ap, ◌∙◌, append_assoc, append-nil, arith}
 use Rattle.std.specs.Prelude.{◌==◌}
 use Rattle.std.specs.List.{list_all, zip}
@@ -15,7 +15,7 @@ use Rattle.syn_tokens.specs.declared.stream.entry.Close.{Close}
 use Rattle.syn_tokens.specs.declared.stream.entry.Token.{Token as Entry}
 use Rattle.syn_tokens.specs.declared.stream.entry.Token.TheVariants as E
 
--- what may stand behind the entries of a group's content or of a whole stream
+-- what may follow the entries of a group's content or of a whole stream
 data Behind : Type 0 where
   nothing : Behind
   sign : Close → List Entry → Behind
@@ -84,7 +84,7 @@ pub same_encoded : (a b : Stream) → same_entries (encode a) (encode b) ≡ sam
 same_encoded a b =
     sym (λ k. same_entries (append-nil (encode a) k) (append-nil (encode b) k)) ∙ same_ahead a b nothing nothing ∙ and_true (same_stream a b)
 
--- entries are compared by going over both lists at once
+-- entries are compared by iterating over both lists at once
 pub same_zipped : (es fs : List Entry) → length es ≡ length fs → list_all (λ (p : Entry × Entry). same_entry p.0 p.1) (zip es fs) ≡ same_entries es fs
 same_zipped [] [] e = refl
 same_zipped [] (f ∷ fs) e = absurd (omega arith)

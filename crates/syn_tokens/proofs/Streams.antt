@@ -8,7 +8,7 @@ use Rattle.syn_grammar.specs.Take.{is_end, length}
 suc_is_not_zero : (n : ℕ) → (suc n == 0) ≡ false
 suc_is_not_zero n = grind (arith, nat_tests)
 
--- nothing is left where no tree is
+-- a stream is at its end if it has no trees
 pub is_end_of : (ts : Stream) → is_end ts ≡ (length ts == 0)
 unfolding is_end
 is_end_of end = refl

@@ -16,17 +16,17 @@ use Rattle.syn_tokens.specs.declared.stream.entry.Open.{Open}
 use Rattle.syn_tokens.specs.declared.stream.entry.Token.{Token as Entry}
 use Rattle.syn_tokens.specs.declared.stream.entry.Token.TheVariants as E
 
--- a group whose closing delimiter is still to come
+-- a group that is not closed yet
 pub record OpenGroup : Type 0 where
   pub delimiter : Delimiter
   pub opening : Span
-  pub outer : Stream  -- what stands before it in the group around it, or in the whole stream
+  pub outer : Stream  -- the trees before it in the enclosing group, or in the whole stream
 
--- what it began with, and what stands there now
+-- what it began with, and what is there now
 pub record Building : Type 0 where
   pub before : Stream
   pub open_groups : List OpenGroup  -- from the outermost to the innermost
-  pub stream : Stream  -- what stands so far in the innermost open group, or in the whole stream
+  pub stream : Stream  -- the trees so far in the innermost open group, or in the whole stream
 
 abbrev pub coded_group : Coded OpenGroup
 coded_group = code_by (Delimiter × (Span × Stream)) (coded× delimiter.the_row.coded (coded× span.the_row.coded stream_code)) (λ g. (g.delimiter, (g.opening, g.outer))) (λ p. record { delimiter = p.0; opening = p.1.0; outer = p.1.1 }) (λ _. refl)
@@ -36,7 +36,7 @@ coded_building = code_by (Stream × (List OpenGroup × Stream)) (coded× stream_
 
 -- THE ENTRIES SO FAR
 
--- the opening delimiter of a group that is still open: how far its closing delimiter stands isn't known yet
+-- the opening delimiter of a group that is still open: the position of its closing delimiter isn't known yet
 abbrev pub open_delimiter : OpenGroup → Entry
 open_delimiter g = E.Open (record { delimiter = g.delimiter; span = g.opening; skip = 0 })
 
@@ -44,7 +44,7 @@ abbrev pub laid : List OpenGroup → Stream → List Entry
 laid [] s = encode s
 laid (g ∷ gs) s = encode g.outer ++ open_delimiter g ∷ laid gs s
 
--- the groups that are open, from what stands before the first of them and from the content of each
+-- the open groups, from the trees before the first of them and from the content of each
 abbrev pub groups : Stream → List (Open × Stream) → List OpenGroup
 groups s [] = []
 groups s (p ∷ ps) = record { delimiter = p.0.delimiter; opening = p.0.span; outer = s } ∷ groups p.1 ps
@@ -60,13 +60,13 @@ groups_in es = groups (states es).trees (states es).opened
 abbrev pub stream_in : List Entry → Stream
 stream_in es = content (states es).trees (states es).opened
 
--- where the first of these entries were there from the beginning
+-- the state of a builder that began with the first `n` of these entries
 abbrev pub building : ℕ → List Entry → Building
 building n es = record { before = decode (take n es); open_groups = groups_in es; stream = stream_in es }
 
 -- WHAT CALLS DO
 
--- the innermost open group is closed, and is a tree of the group around it
+-- the innermost open group is closed, and becomes a tree of the enclosing group
 pub record Closes (delimiter : Delimiter) (closing : Span) (old new : Building) : Type 0 where
   pub around : List OpenGroup
   pub innermost : OpenGroup
@@ -81,12 +81,12 @@ NotOpen d b = (around : List OpenGroup) (g : OpenGroup) → b.open_groups ≡ ar
 abbrev pub unbalanced : Span → List FaultValue
 unbalanced s = (s, codes "unbalanced group") ∷ []
 
--- memory was refused, or a delimiter there closes no group, for which this is the reason
+-- memory was refused, or a delimiter there closes no group, for this reason
 abbrev pub IsUnbalanced : Span → Type 0 → List FaultValue → Type 0
 IsUnbalanced s reason [] = Unit {0}
 IsUnbalanced s reason (f ∷ fs) = (f ∷ fs ≡ unbalanced s) × reason
 
--- WHAT PRINTS DO, in words that are opened where a proof asks for it
+-- WHAT PRINTS DO, in definitions that a proof unfolds where it needs to
 
 -- these trees were added
 unfoldable pub added : Building → Stream → Building
@@ -113,7 +113,7 @@ is_open_in (g ∷ gs) = true
 unfoldable pub is_open : Building → Bool
 is_open b = is_open_in b.open_groups
 
--- outside of the innermost open group, which ends here and is a tree of the group around it
+-- outside of the innermost open group, which ends here and becomes a tree of the enclosing group
 abbrev pub closed_in : Stream → List OpenGroup → grammar.Span → Stream → Building
 closed_in before [] c s = record { before = before; open_groups = []; stream = s }
 closed_in before (g ∷ gs) c s =

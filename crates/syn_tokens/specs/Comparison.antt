@@ -1,4 +1,4 @@
--- Comparisons where spans don't count.
+-- Comparisons that ignore spans.
 use Rattle.std.specs.Prelude.{Bool}
 use Rattle.std.specs.Cmp.{IsEquivalence, IsPartialEquivalence, partial_equiv_from_equiv, on_equiv}
 use Rattle.syn_grammar.specs.Grammar.{Syntax, plain_syntax}
@@ -7,7 +7,7 @@ use Rattle.syn_grammar.proofs.Same.{same_syntax_plain}
 use Rattle.syn_tokens.specs.Equal.{equiv_from_view}
 
 module _ {A : Type 0} (view : A → Syntax) where
-  -- two values stand for the same syntax
+  -- two values represent the same syntax
   abbrev pub same_by : A → A → Bool
   same_by a b = same_syntax (view a) (view b)
 

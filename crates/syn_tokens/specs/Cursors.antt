@@ -1,4 +1,4 @@
--- What a cursor finds.
+-- The results of a cursor.
 use Rattle.std.specs.Prelude.{◌≡◌, ℕ, List, ◌∷◌, ◌++◌, length}
 use Rattle.syn_grammar.specs.Tokens.{ident, literal, Stream, leaf, punct, group}
 use Rattle.syn_tokens.specs.Spans.{at}
@@ -19,14 +19,14 @@ before_next (N.Literal l) r = leaf (literal (kind_of l.kind) l.text) (at l.span)
 before_next (N.Punct p) r = punct p.character (is_joint p.spacing) (at p.span) r
 before_next (N.Group g) r = group (delimiter_of g.delimiter) (at g.opening) (at g.closing) g.content r
 
--- where a tree stands
+-- the span of a tree
 abbrev pub next_span : TokenTreeRef → Span
 next_span (N.Ident i) = i.span
 next_span (N.Literal l) = l.span
 next_span (N.Punct p) = p.span
 next_span (N.Group g) = g.opening
 
--- behind so many entries there is a closing delimiter
+-- a closing delimiter follows after so many entries
 pub record Closes (es : List Entry) (count : ℕ) : Type 0 where
   pub content : List Entry
   pub closing : Closing

@@ -1,4 +1,4 @@
--- The delimiters of groups, as the grammar has them.
+-- The delimiters of groups, as the grammar represents them.
 use Rattle.syn_grammar.specs.Tokens as grammar
 use Rattle.syn_tokens.specs.declared.delimiter.Delimiter.{Delimiter}
 use Rattle.syn_tokens.specs.declared.delimiter.Delimiter.TheVariants.{Paren, Brace, Bracket, None}

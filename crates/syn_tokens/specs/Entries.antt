@@ -1,4 +1,4 @@
--- The entries that a stream is kept as: its tokens and the delimiters of its groups, in order and at every depth.
+-- The entries of a token stream: its tokens and the delimiters of its groups, in order and at every depth.
 use Rattle.std.specs.Prelude.{◌≡◌, ℕ, Bool, true, false, List, [], ◌∷◌, ◌++◌, length}
 use Rattle.syn_grammar.specs.Tokens as grammar
 use Rattle.syn_grammar.specs.Tokens.{Leaf, ident, literal, Stream, end, leaf, punct, group}
@@ -18,7 +18,7 @@ use Rattle.syn_tokens.specs.declared.stream.entry.Open.{Open}
 use Rattle.syn_tokens.specs.declared.stream.entry.Token.{Token as Entry}
 use Rattle.syn_tokens.specs.declared.stream.entry.Token.TheVariants as E
 
--- WORDS OF THE GRAMMAR, as the types of this crate have them
+-- TERMS OF THE GRAMMAR, as the types of this crate represent them
 
 abbrev pub from : grammar.Span → Span
 from s = record { start = s.start; end = s.stop }
@@ -49,15 +49,15 @@ leaf_entry (literal k x) sp = E.Literal (record { kind = kind_from k; text = x; 
 abbrev pub punct_entry : ℕ → Bool → grammar.Span → Entry
 punct_entry c j sp = E.Punct (record { character = c; spacing = spacing_from j; span = from sp })
 
--- an opening delimiter, with so many entries before its closing delimiter
+-- an opening delimiter, with the number of entries before its closing delimiter
 abbrev pub open_entry : grammar.Delimiter → grammar.Span → ℕ → Entry
 open_entry d o skip = E.Open (record { delimiter = delimiter_from d; span = from o; skip = skip })
 
--- a closing delimiter, with so many trees behind its opening delimiter
+-- a closing delimiter, with the number of trees after its opening delimiter
 abbrev pub close_entry : grammar.Delimiter → grammar.Span → ℕ → Entry
 close_entry d c trees = E.Close (record { delimiter = delimiter_from d; span = from c; trees = trees })
 
--- where an entry stands
+-- the span of an entry
 abbrev pub entry_span : Entry → Span
 entry_span (E.Ident i) = i.span
 entry_span (E.Literal l) = l.span
@@ -74,8 +74,8 @@ encode (group d o c i m) = open_entry d o (length (encode i)) ∷ (encode i ++ c
 
 -- THE STREAM OF ENTRIES, from the last to the first
 
--- the trees before the next delimiter that has no other one yet; for each closing delimiter of this kind where it stands and the
--- trees behind it; for each opening delimiter of this kind it and the trees behind it
+-- the trees before the next unmatched delimiter; for each closing delimiter of this kind its span and the trees after it; for
+-- each opening delimiter of this kind the delimiter and the trees after it
 pub record State : Type 0 where
   pub trees : Stream
   pub outer : List (grammar.Span × Stream)
@@ -98,12 +98,12 @@ states (e ∷ es) = step e (states es)
 abbrev pub decode : List Entry → Stream
 decode es = (states es).trees
 
--- these are the entries of a stream, which has so many trees: each opening delimiter has its closing delimiter where it says
+-- these are the entries of a stream of so many trees: each opening delimiter says where its closing delimiter is
 pub record IsFlat (es : List Entry) (trees : ℕ) : Type 0 where
   pub encoded : es ≡ encode (decode es)
   pub counted : trees ≡ take.length (decode es)
 
--- a token, and no delimiter of a group
+-- a token, not a delimiter of a group
 abbrev pub IsToken : Entry → Type 0
 IsToken (E.Open o) = ⊥
 IsToken (E.Close c) = ⊥

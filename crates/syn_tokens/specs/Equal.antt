@@ -6,7 +6,7 @@ use Rattle.std.proofs.Common.{subst, refl, sym, ◌∙◌}
 use Rattle.syn_grammar.specs.Tokens.{same_text}
 use Rattle.syn_grammar.proofs.Same.{bytes_same_text}
 
--- a test whether two values show the same
+-- a test whether two values have the same view
 pub equiv_from_view : {K V : Type 0} (view : K → V) (E : K → K → Bool) → ((x y : K) → E x y ≡ true → view x ≡ view y) → ((x y : K) → view x ≡ view y → E x y ≡ true) → IsEquivalence E
 equiv_from_view view E to from = record {
   refl = λ x. from x x refl;
@@ -14,7 +14,7 @@ equiv_from_view view E to from = record {
   congr = λ x y z e. both_ways (E x z) (E y z) (λ h. from y z (sym (to x y e) ∙ to x z h)) (λ h. from x z (to x y e ∙ to y z h));
 }
 
--- the grammar's test of texts
+-- the grammar's comparison of texts
 pub same_text_equiv : IsEquivalence same_text
 same_text_equiv = subst IsEquivalence (λ i x y. bytes_same_text x y i) nat_list_eq_equiv
 

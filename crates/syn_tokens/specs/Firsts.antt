@@ -1,4 +1,4 @@
--- What stands first, or doesn't: in entries, and in a stream.
+-- What comes first, or doesn't: in entries, and in a stream.
 use Rattle.std.specs.Prelude.{Bool, false}
 use Rattle.syn_grammar.specs.Tokens.{ident, Stream, leaf, punct}
 use Rattle.syn_grammar.specs.Take.{same_delimiter}
@@ -7,7 +7,7 @@ use Rattle.syn_tokens.specs.declared.delimiter.Delimiter.{Delimiter}
 use Rattle.syn_tokens.specs.declared.stream.entry.Token.{Token as Entry}
 use Rattle.syn_tokens.specs.declared.stream.entry.Token.TheVariants as E
 
--- the entry is no identifier; no character of a mark
+-- the entry is not an identifier; not a character of a mark
 abbrev pub IsNoIdent : Entry → Type 0
 IsNoIdent (E.Ident i) = ⊥
 IsNoIdent _ = Unit {0}
@@ -21,7 +21,7 @@ abbrev pub opens : Delimiter → Entry → Bool
 opens d (E.Open o) = same_delimiter (delimiter_of d) (delimiter_of o.delimiter)
 opens d _ = false
 
--- no identifier stands first; no character of a mark
+-- the stream starts with no identifier; with no character of a mark
 abbrev pub NoIdentFirst : Stream → Type 0
 NoIdentFirst (leaf (ident x) sp r) = ⊥
 NoIdentFirst _ = Unit {0}

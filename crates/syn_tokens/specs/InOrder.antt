@@ -1,4 +1,4 @@
--- Values one behind the other, as syntax.
+-- Values in sequence, as syntax.
 use Rattle.std.specs.Prelude.{List, [], ◌∷◌}
 use Rattle.syn_grammar.specs.Grammar.{Syntax, Nothing, Both}
 

@@ -16,6 +16,6 @@ at_place n [] = []
 at_place zero (row ∷ rows) = row
 at_place (suc n) (row ∷ rows) = at_place n rows
 
--- the row of the table that has the keywords which begin with this byte
+-- the row of the keywords that start with this byte
 unfoldable pub keywords_from : ℕ → List Text
 keywords_from c = if is_in_range 97 122 c then at_place (c - 97) by_letter else map (λ w. w.now) OTHERS

@@ -1,3 +1,4 @@
+-- Written by tools/tokens.py; edits are lost.
 -- Words, marks and the delimiters of groups, as types and as syntax.
 use Rattle.syn_tokens.specs.declared.token.delimiters.Delimiters.{Delimiters}
 use Rattle.syn_tokens.specs.declared.token.kind.groups.Paren.{Paren as K_Paren}

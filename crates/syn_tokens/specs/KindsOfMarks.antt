@@ -1,3 +1,4 @@
+-- Written by tools/tokens.py; edits are lost.
 -- Marks as types and as syntax.
 use Rattle.std.specs.Prelude.{[], ◌∷◌}
 use Rattle.syn_grammar.specs.Grammar.{Syntax}

@@ -1,3 +1,4 @@
+-- Written by tools/tokens.py; edits are lost.
 -- Words as types and as syntax.
 use Rattle.syn_grammar.specs.Words.{w_const, w_crate, w_enum, w_extern, w_fn, w_impl, w_in, w_mod, w_pub, w_Self_type, w_self, w_static, w_struct, w_super, w_trait, w_type, w_unsafe, w_use, w_where, w_as, w_async, w_await, w_break, w_continue, w_dyn, w_else, w_false, w_for, w_if, w_let, w_loop, w_match, w_move, w_mut, w_ref, w_return, w_true, w_underscore, w_while, w_abstract, w_auto, w_become, w_box, w_default, w_do, w_final, w_macro, w_override, w_priv, w_safe, w_try, w_typeof, w_union, w_unsized, w_virtual, w_yield}
 use Rattle.syn_grammar.specs.Grammar.{Syntax}

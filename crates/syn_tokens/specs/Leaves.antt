@@ -27,7 +27,7 @@ syntax_of_word x s = Token (ident x) (at s)
 abbrev pub syntax_of_apostrophe : T_Span × IdentValue → Syntax
 syntax_of_apostrophe p = Lifetime (at p.0) p.1.text (at p.1.span)
 
--- the characters of a mark, each where it stands
+-- the characters of a mark, each with its span
 abbrev pub placed : Text → List T_Span → List (ℕ × Span)
 placed (c ∷ l) (s ∷ m) = (c, at s) ∷ placed l m
 placed _ _ = []
@@ -35,7 +35,7 @@ placed _ _ = []
 abbrev pub syntax_of_mark : Text → List T_Span → Syntax
 syntax_of_mark x l = Mark (placed x l)
 
--- a word that some rule may ask for
+-- a word that some rule may require
 unfoldable pub is_known_word : Text → Bool
 is_known_word x = one_of_texts x (keywords ++ contextual)
 

@@ -4,7 +4,7 @@ use Rattle.syn_grammar.specs.Grammar.{Syntax, Nothing, Node, Right, Left, Both}
 use Rattle.syn_tokens.specs.Lists.{Sequence}
 
 module _ {T P : Type 0} (tag : Syntax → Syntax) (view : T → Syntax) (separator_view : P → Syntax) where
-  -- a list that begins with these, before its other members
+  -- the pairs of a list, followed by its other members
   abbrev pub onto : List (T × P) → Syntax → Syntax
   onto [] s = s
   onto (x ∷ l) s = Node (tag (Both (view x.0) (Left (Both (separator_view x.1) (onto l s)))))
@@ -19,14 +19,14 @@ module _ {T P : Type 0} (tag : Syntax → Syntax) (view : T → Syntax) (separat
 abbrev pub untagged : Syntax → Syntax
 untagged s = s
 
--- of a rule that may read nothing
+-- of a rule that may derive no element
 abbrev pub list_of : {T P : Type 0} → (T → Syntax) → (P → Syntax) → List (T × P) → Option T → Syntax
 list_of view separator_view = listed Right view separator_view (Node (Left Nothing))
 
--- of a rule that reads one at least
+-- of a rule that derives at least one element
 abbrev pub joined_of : {T P : Type 0} → (T → Syntax) → (P → Syntax) → List (T × P) → Option T → Syntax
 joined_of view separator_view = listed untagged view separator_view Nothing
 
--- a list by itself, whatever rule it is of: as of one that may read nothing
+-- a list by itself, whichever rule it belongs to: as of a rule that may derive no element
 abbrev pub syntax_of_list : {T P : Type 0} → (T → Syntax) → (P → Syntax) → Sequence T P → Syntax
 syntax_of_list view separator_view s = list_of view separator_view s.pairs s.last

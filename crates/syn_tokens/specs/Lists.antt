@@ -2,7 +2,7 @@
 use Rattle.std.specs.Prelude.{List, [], ◌∷◌, ◌++◌, map, Option, Some, None, refl}
 use Rattle.std.specs.Coded.{Coded, code_by, coded×, coded_list, coded_option}
 
--- the values that a separator follows, each with it, and the last one if none follows it
+-- the values that are followed by a separator, with it, and the last one if none follows it
 pub record Sequence (T P : Type 0) : Type 0 where
   pub pairs : List (T × P)
   pub last : Option T
@@ -26,7 +26,7 @@ module _ {T P : Type 0} where
   abbrev pub values : Sequence T P → List T
   values s = firsts s.pairs ++ listed s.last
 
--- what something holds, if it is there
+-- the content of an optional value
 abbrev pub items_in : {S X : Type 0} → (S → List X) → Option S → List X
 items_in items None = []
 items_in items (Some s) = items s

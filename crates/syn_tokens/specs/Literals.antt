@@ -1,4 +1,4 @@
--- Literals, and what the grammar calls them.
+-- Literals, and their kinds in the grammar.
 use Rattle.std.specs.Prelude.{ℕ, List, ◌∷◌}
 use Rattle.syn_grammar.specs.Tokens as grammar
 use Rattle.syn_tokens.specs.declared.span.Span.{Span}

@@ -1,4 +1,4 @@
--- How a stream keeps tokens and delimiters of groups.
+-- How a stream stores tokens and delimiters of groups.
 use Rattle.std.specs.Prelude.{◌≡◌, IsTrue}
 use Rattle.syn_tokens.specs.Idents.{is_keyword}
 use Rattle.syn_tokens.specs.CompactSpans.{wide}
@@ -8,7 +8,7 @@ use Rattle.syn_tokens.specs.declared.stream.entry.Token.TheVariants as E
 use Rattle.syn_tokens.specs.declared.stream.entry.Packed.TheVariants as P
 use Rattle.syn_tokens.specs.declared.stream.entry.Far.TheVariants as F
 
--- what has no compact span
+-- an entry without a compact span
 abbrev pub far_token : F.the_data → Token
 far_token (F.Ident i) = E.Ident i
 far_token (F.Literal l) = E.Literal l
@@ -24,7 +24,7 @@ unpacked (P.Open delimiter place skip) = E.Open (record { delimiter = delimiter;
 unpacked (P.Close delimiter place trees) = E.Close (record { delimiter = delimiter; span = wide place; trees = trees })
 unpacked (P.Far far) = far_token far.value
 
--- it is known whether an identifier is a keyword, and marks are made of their characters
+-- the flag says whether an identifier is a keyword, and the characters of marks are allowed there
 abbrev pub IsPacked : P.the_data → Type 0
 IsPacked (P.Ident keyword place text) = keyword ≡ is_keyword text
 IsPacked (P.Punct spacing character place) = IsTrue (is_punct_character character)

@@ -1,8 +1,8 @@
--- The trees of a stream by their places.
+-- The trees of a stream by their indices.
 use Rattle.std.specs.Prelude.{ℕ, zero, suc}
 use Rattle.syn_grammar.specs.Tokens.{Stream, end, leaf, punct, group}
 
--- the one tree at this place, counted from 0; nothing where there is no such place
+-- the tree at this index, counted from 0; nothing if there is no such tree
 abbrev pub place : ℕ → Stream → Stream
 place n end = end
 place zero (leaf x sp m) = leaf x sp end
@@ -12,7 +12,7 @@ place (suc n) (leaf x sp m) = place n m
 place (suc n) (punct c j sp m) = place n m
 place (suc n) (group d o c i m) = place n m
 
--- what stands behind so many trees
+-- the trees after the first so many
 abbrev pub after : ℕ → Stream → Stream
 after zero ts = ts
 after (suc n) end = end

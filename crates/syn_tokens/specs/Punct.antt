@@ -24,7 +24,7 @@ abbrev pub is_joint : Spacing → Bool
 is_joint Joint = true
 is_joint Alone = false
 
--- marks are made of these
+-- the characters of marks
 abbrev pub punct_characters : List ℕ
 punct_characters = codes "~!@#$%^&*-=+|;:,<.>/?'"
 

@@ -1,4 +1,4 @@
--- What is printed of a list, whichever rule reads it.
+-- The printed form of a list, whichever rule parses it.
 use Rattle.std.specs.Prelude.{List, [], ◌∷◌, Option, Some, None}
 use Rattle.syn_grammar.specs.Tokens.{Stream, end, ◌⧺◌}
 use Rattle.syn_grammar.specs.Grammar.{Syntax, print}

@@ -8,7 +8,7 @@ use Rattle.syn_tokens.specs.Punct.{same_punct}
 use Rattle.syn_tokens.specs.declared.stream.entry.Token.{Token as Entry}
 use Rattle.syn_tokens.specs.declared.stream.entry.Token.TheVariants as E
 
--- the same token, or the same opening delimiter; closing delimiters aren't told apart
+-- the same token, or the same opening delimiter; all closing delimiters count as the same
 abbrev pub same_entry : Entry → Entry → Bool
 same_entry (E.Ident i) (E.Ident j) = same_text i.text j.text
 same_entry (E.Literal k) (E.Literal l) = same_text (spelling k) (spelling l)

@@ -1,4 +1,4 @@
--- Spans, as the grammar has them.
+-- Spans, as the grammar represents them.
 use Rattle.syn_grammar.specs.Tokens as grammar
 use Rattle.syn_tokens.specs.declared.span.Span.{Span}
 

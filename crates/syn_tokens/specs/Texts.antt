@@ -1,4 +1,4 @@
--- The texts that tokens share.
+-- Shared texts of tokens.
 use Rattle.std.specs.Prelude.{List, ℕ, string_bytes}
 use Rattle.syn_tokens.specs.declared.text.Shared.TheVariants as Shared-m
 

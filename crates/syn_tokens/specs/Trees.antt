@@ -1,4 +1,4 @@
--- The stream that a list of token trees is.
+-- The stream of a list of token trees.
 use Rattle.std.specs.Prelude.{List, [], ◌∷◌}
 use Rattle.syn_grammar.specs.Tokens.{ident, literal, Stream, end, leaf, punct, group}
 use Rattle.syn_tokens.specs.Spans.{at}
@@ -20,7 +20,7 @@ abbrev pub stream_of : List TokenTree → Stream
 stream_of [] = end
 stream_of (t ∷ l) = before t (stream_of l)
 
--- where a tree stands
+-- the span of a tree
 abbrev pub span_of : TokenTree → Span
 span_of (T.Ident i) = i.span
 span_of (T.Literal l) = l.span

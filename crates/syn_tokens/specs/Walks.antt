@@ -6,7 +6,7 @@ use Rattle.syn_tokens.specs.Cursors.{before_next}
 use Rattle.syn_tokens.specs.declared.stream.cursor.TokenTreeRef.{TokenTreeRef}
 use Rattle.syn_tokens.specs.declared.stream.cursor.TokenTreeRef.TheVariants as T
 
--- its trees in order, each group as one
+-- its trees in order, a group counts as one
 abbrev pub trees_of : Stream → List TokenTreeRef
 trees_of end = []
 trees_of (leaf (ident x) sp m) = T.Ident (record { text = x; span = from sp }) ∷ trees_of m
@@ -14,7 +14,7 @@ trees_of (leaf (literal k x) sp m) = T.Literal (record { kind = kind_from k; tex
 trees_of (punct c j sp m) = T.Punct (record { character = c; spacing = spacing_from j; span = from sp }) ∷ trees_of m
 trees_of (group d o c i m) = T.Group (record { delimiter = delimiter_from d; opening = from o; closing = from c; content = i }) ∷ trees_of m
 
--- the stream that these trees are, one behind another
+-- the stream of these trees, in order
 abbrev pub in_turn : List TokenTreeRef → Stream
 in_turn [] = end
 in_turn (t ∷ l) = before_next t (in_turn l)

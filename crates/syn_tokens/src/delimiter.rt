@@ -1,5 +1,5 @@
 //! The delimiters of a group.
-/// The two delimiters that stand around a group; those of a `None` group are invisible.
+/// The delimiters around a group; those of a `None` group are invisible.
 #[derive(Clone, Copy, Debug, PartialEq, Eq)]
 pub enum Delimiter {
     /// `( )`

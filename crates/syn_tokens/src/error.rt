@@ -1,4 +1,4 @@
-//! What a public call says where it refuses.
+//! Errors of public calls.
 ghost use Rattle.std.specs.Prelude.{◌≡◌, [], ◌∷◌, ◌++◌, ◌↔◌, ◌≤◌, IsTrue, length, map, take};
 
 use crate::span::Span;
@@ -6,20 +6,20 @@ use std::alloc::{AllocError, AllocFailed};
 use std::fmt;
 use std::marker::Model;
 
-/// One thing that is wrong: where, and what.
+/// One syntax error: its span and its message.
 #[derive(Clone, Copy, Debug)]
 pub struct Fault {
     pub span: Span,
     pub text: &'static str,
 }
 
-/// Why a call was refused: one to four faults of syntax, or none where memory was refused. The stack is memory too: what is nested too
-/// deep for it is refused as memory is, and the error says where.
+/// Why a call failed: one to four syntax faults, or none if memory was refused. The stack counts as memory: nesting that is too
+/// deep for it is reported like refused memory, with the position.
 #[derive(Debug, Drop)]
 pub struct Error {
     faults: [Fault; 4],
     count: usize,
-    /// Where the nesting went too far. No contract speaks of it.
+    /// Where the nesting became too deep. No contract covers it.
     too_deep: Option<Span>,
 }
 
@@ -37,10 +37,10 @@ impl Model for Error {
     ghost invariant = { λ e. (e.count ≤ 4) × (length e.faults ≡ 4) };
 }
 
-/// What a public call answers.
+/// The result of a public call.
 pub type Result<T> = std::result::Result<T, Error>;
 
-/// Fills the places behind the faults.
+/// Fills the unused places after the faults.
 const NO_FAULT: Fault = Fault {
     span: Span { start: 0, end: 0 },
     text: "",
@@ -49,7 +49,7 @@ const NO_FAULT: Fault = Fault {
 impl Error {
     ghost use Rattle.syn_tokens.specs.Faults.{fault_of, first_span, combined, IsSyntaxError};
 
-    /// The error with this fault.
+    /// The error with this one fault.
     pub fn new(span: Span, text: &'static str) -> Error
         ensures { result ≡ (span, text.now) ∷ [] }
     {
@@ -60,7 +60,7 @@ impl Error {
         }
     }
 
-    /// The error with one fault, from where the first token begins to where the last one ends.
+    /// The error with one fault, which spans from the start of the first token to the end of the last.
     pub fn new_range(first: Span, last: Span, text: &'static str) -> Error
         ensures { result ≡ (record { start = first.start; end = last.end }, text.now) ∷ [] }
     {
@@ -71,21 +71,21 @@ impl Error {
         Error::new(span, text)
     }
 
-    /// The error where memory was refused.
+    /// The error for refused memory.
     pub fn memory() -> Error
         ensures { result ≡ [] }
     {
         Error::without_fault(None)
     }
 
-    /// The error where what is nested goes too deep for the stack, which is memory; the token there is the first that is too deep.
+    /// The error for nesting that is too deep for the stack; the token there is the first one that is too deep.
     pub fn too_deep(span: Span) -> Error
         ensures { result ≡ [] }
     {
         Error::without_fault(Some(span))
     }
 
-    /// The error where memory was refused: the stack, where the nesting went too far there.
+    /// The error for refused memory; with a span, for nesting that became too deep for the stack there.
     fn without_fault(too_deep: Option<Span>) -> Error
         ensures { result ≡ [] }
     {
@@ -96,7 +96,7 @@ impl Error {
         }
     }
 
-    /// Whether memory was refused, or what is nested goes too deep for the stack.
+    /// Whether memory was refused, stack included.
     pub fn is_memory(&self) -> bool
         ensures value { IsTrue result ↔ (self.now ≡ []) }
         ensures few { length self.now ≤ 4 }
@@ -104,21 +104,21 @@ impl Error {
         self.count == 0
     }
 
-    /// Whether memory was refused since what is nested goes too deep for the stack. More memory doesn't help then.
+    /// Whether the nesting was too deep for the stack. More memory doesn't help then.
     pub fn is_too_deep(&self) -> bool
         ensures memory { IsTrue result → self.now ≡ [] }
     {
         self.is_memory() && self.too_deep.is_some()
     }
 
-    /// The faults; none where memory was refused.
+    /// The faults; none if memory was refused.
     pub fn faults(&self) -> &[Fault]
         ensures { map fault_of result.now ≡ self.now }
     {
         &self.faults[..self.count]
     }
 
-    /// Where the first fault is. Where memory was refused: where the nesting went too far, or else 0 to 0.
+    /// The position of the first fault. If memory was refused: where the nesting became too deep, or else 0 to 0.
     pub fn span(&self) -> Span
         ensures { IsSyntaxError self.now → result ≡ first_span self.now }
     {
@@ -128,8 +128,8 @@ impl Error {
         }
     }
 
-    /// Adds the faults of another error behind its own, up to the fourth. Where either is the refusal of memory, it
-    /// becomes that, and where both are it stays its own.
+    /// Appends the faults of another error, up to four in total. Refused memory takes precedence over faults; if both errors
+    /// report it, this one is unchanged.
     pub fn combine(&mut self, other: Error)
         ensures { self.new ≡ combined self.old other }
     {
@@ -145,7 +145,7 @@ impl Error {
         }
     }
 
-    /// What is told where memory was refused.
+    /// The message for refused memory.
     fn text_of_memory(&self) -> &'static str {
         match self.too_deep {
             Some(_) => "nested too deep",
@@ -153,7 +153,7 @@ impl Error {
         }
     }
 
-    /// One fault more, where there are fewer than four.
+    /// Adds a fault if there are fewer than four.
     fn add(&mut self, fault: Fault)
         ensures { self.new ≡ take 4 (self.old ++ fault_of fault ∷ []) }
     {

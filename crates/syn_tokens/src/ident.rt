@@ -18,8 +18,7 @@ pub mod ident_ref;
 pub mod identifier;
 pub mod keyword;
 
-/// An identifier or a word of the language, such as `a`, `r#a`, `_` or `struct`. Two are equal where their texts are,
-/// wherever they stand.
+/// An identifier or keyword, such as `a`, `r#a`, `_` or `struct`. Two are equal if their texts are; spans are ignored.
 #[derive(Debug, Drop)]
 pub struct Ident {
     text: Text,
@@ -54,8 +53,8 @@ impl Eq for Ident {
 }
 
 impl Ident {
-    /// The identifier of a text. It is refused where the text isn't an identifier: `_` or a character that Unicode lets
-    /// identifiers start with, and then such as they go on by; `r#` may stand before it.
+    /// Makes an identifier of a text. It fails if the text is not one: `_` or a character that may start an identifier in
+    /// Unicode, followed by characters that may continue one; optionally with `r#` before it.
     pub fn new(alloc: Global, text: &str, span: Span) -> Result<Ident>
         ensures identifier { IfOk result (λ i. IsTrue (is_identifier text.now)) }
         ensures value { IfOk result (λ i. i ≡ record { text = text.now; span = span }) }
@@ -68,7 +67,7 @@ impl Ident {
         }
     }
 
-    /// The identifier of a text that is known to be one; refused only where memory is.
+    /// Makes an identifier of a text that is known to be one; fails only if memory is refused.
     pub fn of_identifier(
         alloc: Global,
         text: &str,
@@ -84,7 +83,7 @@ impl Ident {
         })
     }
 
-    /// What `try_clone` gives, where the type says that memory alone can be wanting.
+    /// The result of `try_clone`, whose error type says that only memory can be refused.
     pub(crate) fn copy(&self) -> std::result::Result<Ident, AllocError>
         ensures { IfOk result (λ i. i ≡ self.now) }
     {
@@ -95,14 +94,14 @@ impl Ident {
         })
     }
 
-    /// The identifier, as one that stands in a stream.
+    /// This identifier as a borrowed one, as a stream lends it.
     pub fn as_ref(&self) -> IdentRef<'_>
         ensures { result ≡ self.now }
     {
         IdentRef::new(&self.text, self.keyword, self.span)
     }
 
-    /// The identifier of this text, which is known to be a keyword or none.
+    /// The identifier of this text; the caller knows whether it is a keyword.
     pub(crate) fn of_text(text: Text, keyword: bool, span: Span) -> Ident
         requires { keyword ≡ is_keyword text }
         ensures { result ≡ record { text = text; span = span } }
@@ -114,15 +113,14 @@ impl Ident {
         }
     }
 
-    /// Whether it is a keyword, and its text.
+    /// The keyword flag and the text.
     pub(crate) fn into_parts(self) -> (bool, Text)
         ensures { result ≡ (is_keyword self.text, self.text) }
     {
         (self.keyword, self.text)
     }
 
-    /// The same identifier once more, with the same span. It takes no memory, and is refused only where 2^64 - 1 copies
-    /// of the text are there.
+    /// A copy with the same span. It allocates nothing, and fails only if there are 2^64 - 1 copies of the text.
     pub fn try_clone(&self, _alloc: Global) -> Result<Ident>
         ensures ok { IfOk result (λ i. i ≡ self.now) }
         ensures err { IfErr result (λ e. e ≡ []) }
@@ -130,21 +128,21 @@ impl Ident {
         Ok(self.copy()?)
     }
 
-    /// Its text, with `r#` where that stands before it.
+    /// The text, with `r#` if the identifier is raw.
     pub fn text(&self) -> &str
         ensures { result.now ≡ self.now.text }
     {
         self.text.as_str()
     }
 
-    /// Whether it is one of the words that are no names, such as `struct`; `r#struct` is a name.
+    /// Whether it is a keyword, such as `struct`; `r#struct` is a name.
     pub fn is_keyword(&self) -> bool
         ensures { result ≡ is_keyword self.now.text }
     {
         self.keyword
     }
 
-    /// Whether it is the identifier of this text.
+    /// Whether its text is this one.
     #[tactic(auto, using(syn_grammar::proofs::Same::bytes_same_text))]
     pub fn is(&self, text: &str) -> bool
         ensures { result ≡ same_text self.now.text text.now }

@@ -1,4 +1,4 @@
-//! Tokens, streams of them, and lists with separators.
+//! Tokens, token streams, and lists with separators.
 #![tactic(auto)]
 
 pub mod delimiter;

@@ -5,7 +5,7 @@ use crate::ident::Ident;
 use crate::span::Span;
 use crate::syntactic::Syntactic;
 
-/// A lifetime, such as `'a`: the span of its `'`, and its identifier, which may have any text. Two are equal where their
+/// A lifetime, such as `'a`: the span of its `'`, and its identifier, which may have any text. Two are equal if their
 /// identifiers are.
 #[derive(Debug, Drop)]
 #[derive_where(PartialEq, Eq)]

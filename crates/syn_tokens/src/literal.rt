@@ -13,7 +13,7 @@ use std::marker::Model;
 
 pub mod literal_ref;
 
-/// What a literal is.
+/// The kind of a literal.
 #[derive(Clone, Copy, Debug, PartialEq, Eq)]
 pub enum LitKind {
     /// `"a"`
@@ -32,7 +32,7 @@ pub enum LitKind {
     Float,
 }
 
-/// A literal, as it is written. Two are equal where their kinds and texts are, wherever they stand.
+/// A literal as it is written. Two are equal if their kinds and texts are; spans are ignored.
 #[derive(Debug, Drop)]
 pub struct Literal {
     kind: LitKind,
@@ -68,7 +68,7 @@ impl Eq for Literal {
 }
 
 impl Literal {
-    /// The literal of that kind with any text; refused only where memory is.
+    /// Makes a literal of this kind with any text; fails only if memory is refused.
     pub fn new(alloc: Global, kind: LitKind, text: &str, span: Span) -> Result<Literal>
         ensures ok { IfOk result (λ l. l ≡ record { kind = kind; text = text.now; span = span }) }
         ensures err { IfErr result (λ e. e ≡ []) }
@@ -80,7 +80,7 @@ impl Literal {
         })
     }
 
-    /// What `try_clone` gives, where the type says that memory alone can be wanting.
+    /// The result of `try_clone`, whose error type says that only memory can be refused.
     pub(crate) fn copy(&self) -> std::result::Result<Literal, AllocError>
         ensures { IfOk result (λ l. l ≡ self.now) }
     {
@@ -91,29 +91,28 @@ impl Literal {
         })
     }
 
-    /// The literal, as one that stands in a stream.
+    /// This literal as a borrowed one, as a stream lends it.
     pub fn as_ref(&self) -> LiteralRef<'_>
         ensures { result ≡ self.now }
     {
         LiteralRef::new(self.kind, &self.text, self.span)
     }
 
-    /// The literal of that kind with that text.
+    /// The literal of this kind with this text.
     pub(crate) fn of_text(kind: LitKind, text: Text, span: Span) -> Literal
         ensures { result ≡ record { kind = kind; text = text; span = span } }
     {
         Literal { kind, text, span }
     }
 
-    /// What it is, and its text.
+    /// The kind and the text.
     pub(crate) fn into_parts(self) -> (LitKind, Text)
         ensures { result ≡ (self.kind, self.text) }
     {
         (self.kind, self.text)
     }
 
-    /// The same literal once more, with the same span. It takes no memory, and is refused only where 2^64 - 1 copies of
-    /// the text are there.
+    /// A copy with the same span. It allocates nothing, and fails only if there are 2^64 - 1 copies of the text.
     pub fn try_clone(&self, _alloc: Global) -> Result<Literal>
         ensures ok { IfOk result (λ l. l ≡ self.now) }
         ensures err { IfErr result (λ e. e ≡ []) }
@@ -121,14 +120,14 @@ impl Literal {
         Ok(self.copy()?)
     }
 
-    /// What it is.
+    /// The kind.
     pub fn kind(&self) -> LitKind
         ensures { result ≡ self.now.kind }
     {
         self.kind
     }
 
-    /// Its text, with quotes and suffix.
+    /// The text, with quotes and suffix.
     pub fn text(&self) -> &str
         ensures { result.now ≡ self.now.text }
     {

@@ -1,4 +1,4 @@
-//! What can be printed.
+//! Printing values as tokens.
 ghost use Rattle.std.specs.Prelude.{◌≡◌, [], OnOk, OnErr, IfErr};
 ghost use Rattle.syn_grammar.specs.Tokens.{◌⧺◌};
 ghost use Rattle.syn_grammar.specs.Grammar.{print};
@@ -14,21 +14,21 @@ use crate::syntactic::Syntactic;
 pub use lists::print_list;
 use std::alloc::AllocError;
 
-/// What prints are made of: here it stands once what each of them adds to the stream that is being built.
+/// The internal trait of prints: states once what a value appends to the stream that is being built.
 ///
-/// What leads back to itself has a function beside this one, which takes what prints it inside as one more argument
+/// A recursive type has a function beside this one, which takes the print of the recursive parts as an extra argument
 /// (docs/DESIGN.md, "Open recursion").
 pub trait Print: Syntactic {
-    /// Adds the tokens at the end. Only memory can be refused; some of the tokens may then stand there, and groups may be
-    /// open, but what the builder began with is still what it was.
+    /// Appends the tokens. Only memory can be refused; then some of the tokens may have been added and groups may be open, but
+    /// what the builder began with is unchanged.
     fn print_in(&self, out: &mut StreamBuilder) -> std::result::Result<(), AllocError>
         ensures prints { OnOk result (out.new ≡ added out.old (print (Self.syntax self.now))) }
         ensures begins { out.new.before ≡ out.old.before };
 }
 
-/// What can be printed as tokens.
+/// Values that can be printed as tokens.
 pub trait ToTokens: Print {
-    /// Adds the tokens at the end of the stream. Only memory can be refused, and the stream is then as it was.
+    /// Appends the tokens to the stream. Only memory can be refused; then the stream is unchanged.
     #[tactic(auto, unfolding(crate::specs::Building::added))]
     fn to_tokens(&self, tokens: &mut TokenStream) -> Result<()>
         ensures ok { OnOk result (tokens.new ≡ tokens.old ⧺ print (Self.syntax self.now)) }

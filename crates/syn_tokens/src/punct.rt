@@ -8,13 +8,13 @@ use std::marker::Model;
 /// Whether the next character belongs to the same mark.
 #[derive(Clone, Copy, Debug, PartialEq, Eq)]
 pub enum Spacing {
-    /// It follows directly.
+    /// The next character follows directly.
     Joint,
     Alone,
 }
 
-/// One character of a mark, such as the first `:` of `::`. Two are equal where their characters and spacings are, wherever
-/// they stand.
+/// One character of a mark, such as the first `:` of `::`. Two are equal if their characters and spacings are; spans are
+/// ignored.
 #[derive(Clone, Copy, Debug)]
 pub struct Punct {
     character: char,
@@ -62,7 +62,7 @@ impl Punct {
         matches!(character, '!' | '#'..='\'' | '*'..='/' | ':'..='@' | '^' | '|' | '~')
     }
 
-    /// The character of a mark; `is_punct_character` tells which it may be.
+    /// A character of a mark; `is_punct_character` says which characters are allowed.
     pub fn new(character: char, spacing: Spacing, span: Span) -> Punct
         requires { IsTrue (is_punct_character character) }
         ensures { result ≡ record { character = character; spacing = spacing; span = span } }

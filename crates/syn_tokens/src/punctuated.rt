@@ -9,10 +9,10 @@ pub mod iterators;
 use std::alloc::{AllocError, Global};
 use std::marker::Model;
 
-/// The first pairs of a list, so many, each get the room that they need and no more: most lists are paths of a few words.
+/// Up to so many pairs, a list allocates room for one pair at a time: most lists are paths of a few words.
 const FEW: usize = 4;
 
-/// Makes room for one more pair; refused, it changes nothing.
+/// Makes room for one more pair; changes nothing if memory is refused.
 fn make_room<X>(pairs: &mut Vec<X>) -> Result<(), AllocError>
     ensures items { pairs.new.items ≡ pairs.old.items }
     ensures room { OnOk result (vec_len pairs.new < vec_capacity pairs.new) }
@@ -24,7 +24,7 @@ fn make_room<X>(pairs: &mut Vec<X>) -> Result<(), AllocError>
     }
 }
 
-/// Values with separators between them; the last separator may stand or not.
+/// Values with separators between them; the trailing separator is optional.
 #[derive(Drop)]
 pub struct Punctuated<T, P> {
     inner: Vec<(T, P)>,
@@ -47,7 +47,7 @@ impl<T, P> Model for Punctuated<T, P> {
 }
 
 impl<T, P> Punctuated<T, P> {
-    /// The empty list. It takes no memory.
+    /// The empty list. It allocates nothing.
     pub fn new(alloc: Global) -> Punctuated<T, P>
         ensures { result ≡ nothing_listed }
     {
@@ -58,7 +58,7 @@ impl<T, P> Punctuated<T, P> {
         }
     }
 
-    /// How many values there are.
+    /// The number of values.
     pub fn len(&self) -> usize
         ensures { result ≡ length (values self.now) }
     {
@@ -68,7 +68,7 @@ impl<T, P> Punctuated<T, P> {
         }
     }
 
-    /// Whether there are no values.
+    /// Whether the list is empty.
     pub fn is_empty(&self) -> bool
         ensures { IsTrue result ↔ (self.now ≡ nothing_listed) }
     {
@@ -92,14 +92,14 @@ impl<T, P> Punctuated<T, P> {
         self.iter().next_back()
     }
 
-    /// The values that a separator follows, each with it.
+    /// The values that are followed by a separator, with it.
     pub fn pairs(&self) -> &[(T, P)]
         ensures { result.now ≡ self.now.pairs }
     {
         self.inner.as_slice()
     }
 
-    /// The value at the end that no separator follows, if there is one.
+    /// The last value, if no separator follows it.
     pub fn trailing_value(&self) -> Option<&T>
         ensures { option_copied result ≡ self.now.last }
     {
@@ -109,14 +109,14 @@ impl<T, P> Punctuated<T, P> {
         }
     }
 
-    /// Whether a separator follows the last value.
+    /// Whether there is a trailing separator.
     pub fn trailing_punct(&self) -> bool
         ensures { IsTrue result ↔ ((self.now.last ≡ None) × (self.now.pairs ≢ [])) }
     {
         self.last.is_none() && !self.inner.is_empty()
     }
 
-    /// Whether a value may be pushed: there is none yet, or a separator follows the last.
+    /// Whether a value may be pushed: the list is empty or has a trailing separator.
     pub fn empty_or_trailing(&self) -> bool
         ensures { IsTrue result ↔ (self.now.last ≡ None) }
     {
@@ -125,7 +125,7 @@ impl<T, P> Punctuated<T, P> {
 }
 
 impl<T: Drop, P: Drop> Punctuated<T, P> {
-    /// Adds a value at the end. Where memory is refused, the list stays as it was, and the value is dropped.
+    /// Appends a value. If memory is refused, the list is unchanged and the value is dropped.
     pub fn push_value(&mut self, value: T) -> Result<(), AllocError>
         requires { self.old.last ≡ None }
         ensures ok { OnOk result (self.new ≡ record self.old { last = Some value }) }
@@ -135,7 +135,7 @@ impl<T: Drop, P: Drop> Punctuated<T, P> {
         Ok(())
     }
 
-    /// Adds a value and the separator behind it. Where memory is refused, the list stays as it was, and both are dropped.
+    /// Appends a value and the separator after it. If memory is refused, the list is unchanged and both are dropped.
     pub fn push_pair(&mut self, value: T, punct: P) -> Result<(), AllocError>
         requires { self.old.last ≡ None }
         ensures ok { OnOk result (self.new ≡ record { pairs = self.old.pairs ++ (value, punct) ∷ []; last = None }) }
@@ -149,7 +149,7 @@ impl<T: Drop, P: Drop> Punctuated<T, P> {
         Ok(())
     }
 
-    /// Adds a separator at the end. Where memory is refused, the list stays as it was, and the separator is dropped.
+    /// Appends a separator. If memory is refused, the list is unchanged and the separator is dropped.
     pub fn push_punct(&mut self, punct: P) -> Result<(), AllocError>
         requires { IsSome self.old.last }
         ensures ok { OnOk result (IfSome self.old.last (λ value. self.new ≡ record { pairs = self.old.pairs ++ (value, punct) ∷ []; last = None })) }
@@ -165,7 +165,7 @@ impl<T: Drop, P: Drop> Punctuated<T, P> {
         Ok(())
     }
 
-    /// Adds the values of another list at the end. Where memory is refused, the list stays as it was, and the other is dropped.
+    /// Appends the values of another list. If memory is refused, this list is unchanged and the other is dropped.
     pub fn append(&mut self, other: Punctuated<T, P>) -> Result<(), AllocError>
         requires { self.old.last ≡ None }
         ensures ok { OnOk result (self.new ≡ record { pairs = self.old.pairs ++ other.pairs; last = other.last }) }
@@ -184,7 +184,7 @@ impl<T: Drop, P: Drop> Punctuated<T, P> {
         Ok(())
     }
 
-    /// The only value of a list of one value that no separator follows; any other list comes back as it was.
+    /// The only value of a list of one value without trailing separator; any other list is returned unchanged.
     pub fn into_lone(mut self) -> Result<Box<T>, Punctuated<T, P>>
         ensures lone { IfOk result (λ value. self ≡ record { pairs = []; last = Some value.value }) }
         ensures other { IfErr result (λ list. list ≡ self) }

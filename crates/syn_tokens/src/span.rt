@@ -1,8 +1,7 @@
-//! Where a token stands.
+//! Positions of tokens.
 ghost use Rattle.std.specs.Prelude.{◌≡◌};
 
-/// From which byte of a text to which a token stands: `start` is the offset of its first byte, `end` that of the byte
-/// behind its last.
+/// The byte range of a token in a text: `start` is the offset of its first byte, `end` the offset after its last byte.
 #[derive(Clone, Copy, Debug, PartialEq, Eq)]
 pub struct Span {
     pub start: usize,
@@ -10,7 +9,7 @@ pub struct Span {
 }
 
 impl Span {
-    /// The span of a token that stands in no text: 0 to 0.
+    /// The span of a token that is in no text: 0 to 0.
     pub fn call_site() -> Span
         ensures { result ≡ record { start = 0; end = 0 } }
     {

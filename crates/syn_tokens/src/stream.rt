@@ -27,9 +27,9 @@ mod words;
 /// A list of token trees.
 #[derive(Drop)]
 pub struct TokenStream {
-    /// Their tokens and the delimiters of their groups, at every depth.
+    /// The tokens of the trees and the delimiters of their groups, at every depth.
     entries: Vec<Entry>,
-    /// How many trees there are.
+    /// The number of trees.
     trees: usize,
     alloc: Global,
 }
@@ -48,7 +48,7 @@ impl Model for TokenStream {
     ghost invariant = { λ s. IsFlat s.entries.items s.trees };
 }
 
-/// Adds a group's delimiters with these entries between them; refused, it leaves all as it was.
+/// Appends a group's delimiters with these entries between them; if memory is refused, all is unchanged.
 fn enclose(
     entries: &mut Vec<Entry>,
     opening: Entry,
@@ -68,7 +68,7 @@ fn enclose(
     Ok(())
 }
 
-/// The same in the memory of the content, where that is longer than what stands before it.
+/// The same for a content that is longer than the entries before it: reuses its memory.
 fn enclose_longer(
     entries: &mut Vec<Entry>,
     opening: Entry,
@@ -102,7 +102,7 @@ impl TokenStream {
         }
     }
 
-    /// The stream of these entries, which are so many trees.
+    /// The stream of these entries, which form so many trees.
     pub(crate) fn of_entries(entries: Vec<Entry>, trees: usize, alloc: Global) -> TokenStream
         requires { IsFlat entries.items trees }
         ensures { result ≡ decode entries.items }
@@ -114,7 +114,7 @@ impl TokenStream {
         }
     }
 
-    /// Its entries, and how many trees they are.
+    /// The entries, and the number of trees that they form.
     pub(crate) fn into_entries(self) -> (Vec<Entry>, usize)
         ensures flat { IsFlat result.0.items result.1 }
         ensures same { decode result.0.items ≡ self }
@@ -122,33 +122,33 @@ impl TokenStream {
         (self.entries, self.trees)
     }
 
-    /// Where its memory comes from.
+    /// The allocator.
     pub fn alloc(&self) -> Global {
         self.alloc
     }
 
-    /// Its tokens and the delimiters of its groups, in order and at every depth.
+    /// The tokens and the delimiters of the groups, in order and at every depth.
     pub fn entries(&self) -> &[Entry]
         ensures { result.now ≡ encode self.now }
     {
         self.entries.as_slice()
     }
 
-    /// A cursor over its trees, from the first one.
+    /// A cursor over the trees, from the first one.
     pub fn cursor(&self) -> Cursor<'_>
         ensures { result ≡ self.now }
     {
         Cursor::new(self.entries.as_slice(), self.trees)
     }
 
-    /// How many token trees it has, each group counted as one.
+    /// The number of token trees; a group counts as one.
     pub fn len(&self) -> usize
         ensures { result ≡ length self.now }
     {
         self.cursor().len()
     }
 
-    /// Whether it has none.
+    /// Whether the stream is empty.
     #[tactic(auto, using(crate::proofs::Streams::is_end_of))]
     pub fn is_empty(&self) -> bool
         ensures { result ≡ is_end self.now }
@@ -156,7 +156,7 @@ impl TokenStream {
         self.trees == 0
     }
 
-    /// Adds a tree at the end. Where memory is refused, the stream is as it was and the tree is dropped.
+    /// Appends a tree. If memory is refused, the stream is unchanged and the tree is dropped.
     pub fn push(&mut self, tree: TokenTree) -> Result<()>
         ensures ok { OnOk result (self.new ≡ self.old ⧺ before tree end) }
         ensures err { OnErr result (self.new ≡ self.old) }
@@ -165,7 +165,7 @@ impl TokenStream {
         Ok(self.add(tree)?)
     }
 
-    /// The same, where the type says that memory alone can be wanting.
+    /// The same, with an error type that says that only memory can be refused.
     fn add(&mut self, tree: TokenTree) -> std::result::Result<(), AllocError>
         ensures ok { OnOk result (self.new ≡ self.old ⧺ before tree end) }
         ensures err { OnErr result (self.new ≡ self.old) }
@@ -178,7 +178,7 @@ impl TokenStream {
         }
     }
 
-    /// Adds a token at the end; refused, it leaves the stream as it was.
+    /// Appends a token; if memory is refused, the stream is unchanged.
     #[inline(always)]
     fn add_token(&mut self, token: Entry) -> std::result::Result<(), AllocError>
         requires { IsToken token }
@@ -190,7 +190,7 @@ impl TokenStream {
         Ok(())
     }
 
-    /// Adds a group at the end; refused, it leaves the stream as it was.
+    /// Appends a group; if memory is refused, the stream is unchanged.
     fn add_group(&mut self, tree: Group) -> std::result::Result<(), AllocError>
         ensures ok { OnOk result (self.new ≡ self.old ⧺ group (delimiter_of tree.delimiter) (at tree.opening) (at tree.closing) tree.stream end) }
         ensures err { OnErr result (self.new ≡ self.old) }
@@ -220,8 +220,8 @@ impl TokenStream {
         Ok(())
     }
 
-    /// Adds the trees of another stream at the end; refused, it leaves this one as it was. Where this one is empty, it takes
-    /// the other's memory and no more.
+    /// Appends the trees of another stream; if memory is refused, this stream is unchanged. If this stream is empty, it takes
+    /// over the memory of the other.
     pub fn append(&mut self, other: TokenStream) -> std::result::Result<(), AllocError>
         ensures ok { OnOk result (self.new ≡ self.old ⧺ other) }
         ensures err { OnErr result (self.new ≡ self.old) }
@@ -237,7 +237,7 @@ impl TokenStream {
         Ok(())
     }
 
-    /// Keeps the first trees, `count` of them, where there are more; a group counts as one.
+    /// Keeps the first `count` trees, if there are more; a group counts as one.
     pub fn truncate(&mut self, count: usize)
         ensures { self.new ≡ first count self.old }
     {

@@ -1,4 +1,4 @@
-//! What values stand for.
+//! The syntax that values represent.
 ghost use Rattle.std.specs.Prelude.{[]};
 ghost use Rattle.syn_grammar.specs.Grammar.{Rest, Syntax};
 ghost use Rattle.syn_tokens.specs.InOrder.{in_order, pair_of};
@@ -13,7 +13,7 @@ use crate::stream::TokenStream;
 pub mod compare;
 pub mod try_clone;
 
-/// A value that stands for syntax: for what was read, with its delimiters and spans.
+/// A value that represents syntax: what was parsed, with delimiters and spans.
 pub trait Syntactic {
     ghost syntax: { Self → Syntax };
 }
@@ -34,7 +34,7 @@ impl Syntactic for Literal {
     ghost syntax = { syntax_of_literal };
 }
 
-/// Tokens that stand for themselves, whatever they are.
+/// Token streams represent themselves.
 impl Syntactic for TokenStream {
     ghost syntax = { λ s. Rest [] s };
 }
@@ -47,7 +47,7 @@ impl<T: Syntactic> Syntactic for Vec<T> {
     ghost syntax = { λ v. in_order T.syntax v.items };
 }
 
-/// A list is the same syntax by itself, whichever rule of the grammar it is of.
+/// A list by itself represents the same syntax, whichever rule of the grammar it belongs to.
 impl<T: Syntactic, P: Syntactic> Syntactic for Punctuated<T, P> {
     ghost syntax = { syntax_of_list T.syntax P.syntax };
 }

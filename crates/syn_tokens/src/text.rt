@@ -1,4 +1,4 @@
-//! Texts that tokens share.
+//! Shared texts of tokens.
 ghost use Rattle.std.specs.Prelude.{◌≡◌, IfOk};
 
 use arrayvec::ArrayString;
@@ -6,16 +6,16 @@ use std::alloc::{AllocError, Global};
 use std::marker::Model;
 use std::rc::Rc;
 
-/// How many bytes a text may have that lies beside the count of its copies.
+/// The largest size in bytes of a text that is stored beside its reference count.
 const SHORT: usize = 24;
 
-/// A text that its copies share, seen as its bytes.
+/// A reference-counted text, seen as its bytes.
 #[derive(Debug, Drop)]
 pub struct Text {
     inner: Rc<Shared>,
 }
 
-/// Where a text lies: a short one beside the count of its copies, so that it takes memory once and not twice.
+/// The storage of a text: a short one is stored beside its reference count, to save an allocation.
 #[derive(Debug, Drop)]
 enum Shared {
     Short(ArrayString<SHORT>),
@@ -45,7 +45,7 @@ impl Text {
         })
     }
 
-    /// The same text once more. It takes no memory, and is refused only where 2^64 - 1 copies are there.
+    /// A copy that shares the text. It allocates nothing, and fails only if there are 2^64 - 1 copies.
     pub fn share(&self) -> Result<Text, AllocError>
         ensures { IfOk result (λ t. t ≡ self.now) }
     {
@@ -54,7 +54,7 @@ impl Text {
         })
     }
 
-    /// The text itself.
+    /// The text.
     pub fn as_str(&self) -> &str
         ensures { result.now ≡ self.now }
     {

@@ -1,3 +1,5 @@
+//! Written by tools/tokens.py; edits are lost.
+//!
 //! Words, marks and the delimiters of groups, each with a type.
 
 mod characters;
@@ -322,5 +324,5 @@ pub type Brace = Delimiters<kind::Brace>;
 /// `[ ]`
 pub type Bracket = Delimiters<kind::Bracket>;
 
-/// The delimiters of an invisible group: no text shows them.
+/// The delimiters of an invisible group, which appear in no text.
 pub type Group = Delimiters<kind::Group>;

@@ -53,12 +53,12 @@ plain_parts (Some i) None t d = refl
 plain_parts None (Some c) t d = refl
 plain_parts None None t d = refl
 
-told_parts : (i : Option IdentValue) (c : Option Colon) (t d : Syntax) → parts_back (plain_syntax (formed i c t d)) ≡ plain_syntax (listed i c t d)
-told_parts (Some i) (Some c) t d = refl
-told_parts (Some i) None t d = refl
-told_parts None (Some c) t d = refl
-told_parts None None t d = refl
+known_parts : (i : Option IdentValue) (c : Option Colon) (t d : Syntax) → parts_back (plain_syntax (formed i c t d)) ≡ plain_syntax (listed i c t d)
+known_parts (Some i) (Some c) t d = refl
+known_parts (Some i) None t d = refl
+known_parts None (Some c) t d = refl
+known_parts None None t d = refl
 
 pub same_field : (i j : Option IdentValue) (c e : Option Colon) (s t a d : Syntax) →
     same_syntax (field_parts (maybe syntax_of_ident i) (maybe colon_syntax c) s a) (field_parts (maybe syntax_of_ident j) (maybe colon_syntax e) t d) ≡ and (same_syntax (maybe syntax_of_ident i) (maybe syntax_of_ident j)) (and (same_syntax (maybe colon_syntax c) (maybe colon_syntax e)) (and (same_syntax s t) (same_syntax a d)))
-same_field i j c e s t a d = told parts_of parts_back _ _ (listed i c s a) (listed j e t d) (plain_parts i c s a) (plain_parts j e t d) (told_parts i c s a) (told_parts j e t d)
+same_field i j c e s t a d = told parts_of parts_back _ _ (listed i c s a) (listed j e t d) (plain_parts i c s a) (plain_parts j e t d) (known_parts i c s a) (known_parts j e t d)

@@ -20,13 +20,13 @@ use Rattle.syn_tree.specs.declared.data.Fields.TheVariants as Fields-m
 use Rattle.syn_tree.specs.declared.derive.Data.TheVariants as Data-m
 use Rattle.syn_lower.proofs.Compared.{told}
 
--- AS THEY ARE READ: the three rules begin alike, so the beginning is read once, and then the next word tells which it is
+-- AS THEY ARE READ: the three rules begin alike, so the beginning is read once, and then the next word decides which it is
 
--- by the answers of the three rules
+-- by the results of the three rules
 abbrev answer : Out → Out → Out → Out
 answer a b c = wrap Node (named structure a (named enumeration b (named union_item c None)))
 
--- behind attributes and a visibility
+-- after attributes and a visibility
 abbrev behind : Syntax → Syntax → Out → Out
 behind a v o = wrap Node (wrap (Both a) (wrap Node (wrap (Both v) o)))
 
@@ -55,7 +55,7 @@ turn a v r false false e f =
     go None = refl
     go (Some p) = refl
 
--- the rule of one kind, behind the attributes
+-- the rule of one kind, after the attributes
 abbrev behind_attributes : Out → (Stream → Out) → Out
 behind_attributes o p = wrap Node (and_then o (λ m. wrap Node (and_then (parse_rule visibility m) p)))
 
@@ -80,7 +80,7 @@ derive_input_turns ts =
     go None = refl
     go (Some p) = inner p.0 (parse_rule visibility p.1)
 
--- where `union` doesn't stand next, it can't be taken
+-- if `union` isn't next, it can't be taken
 pub no_union : (ts : Stream) → sees (at_word w_union) ts ≡ false → take_token (word w_union) ts ≡ None
 no_union ts h = go (take_token (word w_union) ts) (sym (sees_word w_union ts) ∙ h)
   where
@@ -119,30 +119,30 @@ plain_body (Fields-m.Unnamed f) c None = refl
 plain_body Fields-m.«Unit» c (Some s) = refl
 plain_body Fields-m.«Unit» c None = refl
 
-told_body : (f : Fields-m.the_data) (c : Syntax) (s : Option Semi) → body_back (plain_syntax (formed f c s)) ≡ plain_syntax (listed f c s)
-told_body (Fields-m.Named f) c (Some s) = refl
-told_body (Fields-m.Named f) c None = refl
-told_body (Fields-m.Unnamed f) c (Some s) = refl
-told_body (Fields-m.Unnamed f) c None = refl
-told_body Fields-m.«Unit» c (Some s) = refl
-told_body Fields-m.«Unit» c None = refl
+known_body : (f : Fields-m.the_data) (c : Syntax) (s : Option Semi) → body_back (plain_syntax (formed f c s)) ≡ plain_syntax (listed f c s)
+known_body (Fields-m.Named f) c (Some s) = refl
+known_body (Fields-m.Named f) c None = refl
+known_body (Fields-m.Unnamed f) c (Some s) = refl
+known_body (Fields-m.Unnamed f) c None = refl
+known_body Fields-m.«Unit» c (Some s) = refl
+known_body Fields-m.«Unit» c None = refl
 
 pub same_body : (f g : Fields-m.the_data) (c d : Syntax) (s t : Option Semi) →
     same_syntax (structure_body_of (syntax_of_Fields f) c (maybe semi_syntax s)) (structure_body_of (syntax_of_Fields g) d (maybe semi_syntax t)) ≡ and (same_syntax (syntax_of_Fields f) (syntax_of_Fields g)) (and (same_syntax c d) (same_syntax (maybe semi_syntax s) (maybe semi_syntax t)))
-same_body f g c d s t = told body_of body_back _ _ (listed f c s) (listed g d t) (plain_body f c s) (plain_body g d t) (told_body f c s) (told_body g d t)
+same_body f g c d s t = told body_of body_back _ _ (listed f c s) (listed g d t) (plain_body f c s) (plain_body g d t) (known_body f c s) (known_body g d t)
 
 -- AN INPUT, compared by its parts, whichever kind it is of
 
 abbrev parts_in_order : Syntax → Syntax → Syntax → Syntax → Syntax → Syntax → Syntax
 parts_in_order attrs vis ident params clause own = Both attrs (Both vis (Both ident (Both params (Both clause own))))
 
-abbrev behind_ident : Syntax → Syntax
-behind_ident s = second (second (second s))
+abbrev after_ident : Syntax → Syntax
+after_ident s = second (second (second s))
 
 abbrev whole : Syntax → Syntax
-whole s = input_of (first s) (first (second s)) (shape_of (first (second (second s))) (first (behind_ident s)) (first (second (behind_ident s))) (second (second (behind_ident s))))
+whole s = input_of (first s) (first (second s)) (shape_of (first (second (second s))) (first (after_ident s)) (first (second (after_ident s))) (second (second (after_ident s))))
 
--- of a struct behind its parameters
+-- of a struct after its parameters
 abbrev struct_back : Syntax → Syntax → Syntax → Syntax → Syntax → Syntax → Syntax
 struct_back a v i p w body = parts_in_order a v i p (first (second body)) (Left (Both w (Both (first body) (second (second body)))))
 
@@ -172,8 +172,8 @@ module _ (a v i p c : Syntax) where
   plain_input (Data-m.Enum d) = refl
   plain_input (Data-m.Union d) = refl
 
-  told_input : (d : Data-m.the_data) → parts_back (plain_syntax (input d)) ≡ plain_syntax (in_order d)
-  told_input (Data-m.Struct d) = go d.fields d.semi_token
+  known_input : (d : Data-m.the_data) → parts_back (plain_syntax (input d)) ≡ plain_syntax (in_order d)
+  known_input (Data-m.Struct d) = go d.fields d.semi_token
     where
       go : (f : Fields-m.the_data) (s : Option Semi) → parts_back (plain_syntax (input (Data-m.Struct (record d { fields = f; semi_token = s })))) ≡ plain_syntax (in_order (Data-m.Struct (record d { fields = f; semi_token = s })))
       go (Fields-m.Named f) (Some s) = refl
@@ -182,9 +182,9 @@ module _ (a v i p c : Syntax) where
       go (Fields-m.Unnamed f) None = refl
       go Fields-m.«Unit» (Some s) = refl
       go Fields-m.«Unit» None = refl
-  told_input (Data-m.Enum d) = refl
-  told_input (Data-m.Union d) = refl
+  known_input (Data-m.Enum d) = refl
+  known_input (Data-m.Union d) = refl
 
 pub same_input : (a b v w i j p q c d : Syntax) (x y : Data-m.the_data) →
     same_syntax (input_of a v (shape_of i p c (syntax_of_Data x))) (input_of b w (shape_of j q d (syntax_of_Data y))) ≡ and (same_syntax a b) (and (same_syntax v w) (and (same_syntax i j) (and (same_syntax p q) (and (same_syntax c d) (same_syntax (syntax_of_Data x) (syntax_of_Data y))))))
-same_input a b v w i j p q c d x y = told whole parts_back _ _ (in_order a v i p c x) (in_order b w j q d y) (plain_input a v i p c x) (plain_input b w j q d y) (told_input a v i p c x) (told_input b w j q d y)
+same_input a b v w i j p q c d x y = told whole parts_back _ _ (in_order a v i p c x) (in_order b w j q d y) (plain_input a v i p c x) (plain_input b w j q d y) (known_input a v i p c x) (known_input b w j q d y)

@@ -1,4 +1,4 @@
--- WHAT SYNTAX FIELDS AND VARIANTS STAND FOR, one level at a time, every field of a struct.
+-- THE SYNTAX OF FIELDS AND VARIANTS, one level at a time, every field of a struct.
 use Rattle.std.specs.Prelude.{true}
 use Rattle.syn_grammar.specs.Words.{w_pub, w_underscore, colon, equals}
 use Rattle.syn_grammar.specs.Tokens.{None as Invisible, at_word}
@@ -26,7 +26,7 @@ abbrev pub field_name : Syntax → Syntax → Syntax
 field_name (Left ident) colon_token = Both ident (or_added colon colon_token)
 field_name _ colon_token = Unshown (or_else Nothing colon_token)
 
--- a field behind its visibility: the name that it has, its colon, its type and its default
+-- a field after its visibility: the name that it has, its colon, its type and its default
 abbrev pub field_parts : Syntax → Syntax → Syntax → Syntax → Syntax
 field_parts (Left ident) colon_token ty default = Both (Shaped untagged (Both ident (Both (or_added colon colon_token) (Shaped untagged ty)))) default
 field_parts _ colon_token ty default = Both (Unshown (or_else Nothing colon_token)) (Both ty default)
@@ -54,7 +54,7 @@ named_type_form = shaped untagged (when at_word w_underscore then plainly (word 
 abbrev pub named_type_syntax : IdentValue × Colon × Type-m.the_data → Syntax
 named_type_syntax p = Shaped untagged (Both (syntax_of_ident p.0) (Both (colon_syntax p.1) (Shaped untagged (syntax_of_Type p.2))))
 
--- `=` and an expression where `=` stands next
+-- `=` and an expression if `=` is next
 abbrev pub value_form : Grammar
 value_form = when at_equals then punctuation equals & rule whole_expression else empty
 

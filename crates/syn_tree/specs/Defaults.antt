@@ -8,24 +8,24 @@ use Rattle.syn_grammar.specs.Run.{parse_rule}
 use Rattle.syn_grammar.specs.Table.{at_equals}
 use Rattle.syn_parse.specs.Peeks.{past}
 
--- attributes, a visibility and a type stand there, and behind them `=` and a default
+-- attributes, a visibility and a type are there, and after them `=` and a default
 pub record HasDefault (ts default : Stream) : Type 0 where
   pub attrs : Syntax
-  pub behind_attrs : Stream
+  pub after_attrs : Stream
   pub vis : Syntax
-  pub behind_vis : Stream
+  pub after_vis : Stream
   pub ty : Syntax
   pub behind_type : Stream
-  pub reads_attrs : parse_rule attributes ts ≡ Some (attrs, behind_attrs)
-  pub reads_vis : parse_rule visibility behind_attrs ≡ Some (vis, behind_vis)
-  pub reads_type : parse_rule type behind_vis ≡ Some (ty, behind_type)
+  pub reads_attrs : parse_rule attributes ts ≡ Some (attrs, after_attrs)
+  pub reads_vis : parse_rule visibility after_attrs ≡ Some (vis, after_vis)
+  pub reads_type : parse_rule type after_vis ≡ Some (ty, behind_type)
   pub equals : sees at_equals behind_type ≡ true
   pub is : default ≡ past behind_type
 
 abbrev pub no_default : List ℕ
 no_default = codes "field default value is only supported in structs with named fields"
 
--- where a default stands, nothing is read, and if memory was found, then for this reason
+-- where there is a default, nothing is read, and with enough memory this is the reason
 abbrev pub RefusesDefault : {X E : Type 0} → Stream → (E → Type 0) → (Stream → List ℕ → E → Type 0) → Result X E → Type 0
 RefusesDefault ts refusal reason (Ok x) = (default : Stream) → HasDefault ts default → ⊥
 RefusesDefault ts refusal reason (Err e) = (default : Stream) → HasDefault ts default → refusal e → reason default no_default e

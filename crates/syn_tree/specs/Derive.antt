@@ -1,4 +1,4 @@
--- WHAT SYNTAX THE INPUT OF A DERIVE STANDS FOR, one level at a time, every field. Structs, enums and unions as items stand for
+-- THE SYNTAX OF THE INPUT OF A DERIVE, one level at a time, every field. Structs, enums and unions as items represent
 -- the same, as far as it is theirs (specs/Items).
 use Rattle.std.specs.Prelude.{Option}
 use Rattle.syn_grammar.specs.Words.{w_struct, w_enum, w_union, semicolon}
@@ -41,10 +41,10 @@ syntax_of_Data (Data-m.Struct d) = Left (syntax_of_DataStruct d)
 syntax_of_Data (Data-m.Enum d) = Right (Left (syntax_of_DataEnum d))
 syntax_of_Data (Data-m.Union d) = Right (Right (syntax_of_DataUnion d))
 
--- BEHIND THE VISIBILITY: the word, the name, the parameters, and in its place among the rest the where clause
+-- AFTER THE VISIBILITY: the word, the name, the parameters, and in its place among the rest the where clause
 
--- what stands behind a struct's parameters: fields in braces stand behind the where clause, and a semicolon that a tree made by
--- hand holds behind them is not printed; in any other struct it is printed in any case
+-- what follows a struct's parameters: fields in braces follow the where clause, and a semicolon that a tree made by
+-- hand holds after them is not printed; in any other struct it is printed in any case
 abbrev pub structure_body_of : Syntax → Syntax → Syntax → Syntax
 structure_body_of (Left fields) clause semi_token = Node (Right (Both clause (Left (Both (Unshown (or_else Nothing semi_token)) fields))))
 structure_body_of (Right (Left fields)) clause semi_token = Node (Left (Both fields (Both clause (or_added semicolon semi_token))))
@@ -64,11 +64,11 @@ shape_of ident params clause (Right (Left own)) = Right (Left (braced_of ident p
 shape_of ident params clause (Right (Right own)) = Right (Right (braced_of ident params clause own))
 shape_of ident params clause own = own
 
--- AN ITEM: attributes, a visibility, and what stands behind it
+-- AN ITEM: attributes, a visibility, and what follows it
 abbrev pub item_of : Syntax → Syntax → Syntax → Syntax
 item_of attrs vis rest = Both attrs (Node (Both vis rest))
 
--- the input of a derive, which tells by its rule of which kind it is
+-- the input of a derive, whose rule decides its kind
 abbrev pub input_of : Syntax → Syntax → Syntax → Syntax
 input_of attrs vis (Left rest) = Node (Case structure (item_of attrs vis rest))
 input_of attrs vis (Right (Left rest)) = Node (Case enumeration (item_of attrs vis rest))
@@ -90,7 +90,7 @@ enumeration_form = plainly (word w_enum) & plainly name & rule generics & rule w
 abbrev pub union_form : Grammar
 union_form = plainly (word w_union) & plainly name & rule generics & rule where_clause & rule fields_named
 
--- a struct, an enum or a union, behind its visibility
+-- a struct, an enum or a union, after its visibility
 abbrev pub shape_form : Grammar
 shape_form = when at_word w_struct then structure_form else when at_word w_enum then enumeration_form else union_form
 

@@ -1,5 +1,5 @@
--- WHAT SYNTAX ITEMS STAND FOR, one level at a time, every field.
--- A struct stands for what its rule's form reads, without the mark of the rule: an item tells by that of which kind it is.
+-- THE SYNTAX OF ITEMS, one level at a time, every field.
+-- A struct represents what its rule's form reads, without the mark of the rule, which decides the kind of an item.
 use Rattle.syn_grammar.specs.Tokens.{Brace}
 use Rattle.syn_grammar.specs.Grammar.{Syntax, Both, Node}
 use Rattle.syn_grammar.specs.Promises.{itself}
@@ -45,7 +45,7 @@ syntax_of_ItemEnum = Node
 abbrev pub syntax_of_ItemUnion : Syntax → Syntax
 syntax_of_ItemUnion = Node
 
--- AS THEY ARE READ, behind the attributes
+-- AS THEY ARE READ, after the attributes
 
 abbrev pub structure_rest_syntax : Visibility-m.the_data × IdentValue × Syntax × DataStruct → Syntax
 structure_rest_syntax p = Node (Both (syntax_of_Visibility p.0) (structure_syntax (p.1, p.2, p.3)))

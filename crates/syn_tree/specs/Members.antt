@@ -34,7 +34,7 @@ fields_of Fields-m.«Unit» = []
 abbrev pub span_of : grammar.Span → Span
 span_of s = record { start = s.start; end = s.stop }
 
--- where the first token stands; 0 to 0 where there is none
+-- the span of the first token; 0 to 0 if there is none
 abbrev pub first_place : Stream → Span
 first_place (leaf l s r) = span_of s
 first_place (punct c j s r) = span_of s
@@ -50,7 +50,7 @@ abbrev pub member_value : MemberRef-m.the_data → MemberValue
 member_value (MemberRef-m.Named i) = Named i.now
 member_value (MemberRef-m.Unnamed i) = Unnamed i
 
--- of the field at this place, by what stands behind its visibility
+-- of the field at this place, by what follows its visibility
 abbrev pub member_in : ℕ → Syntax → MemberValue
 member_in n (Both (Shaped j (Both (Token (ident x) s) t)) default) = Named (record { text = x; span = span_of s })
 member_in n (Both c (Both ty default)) = Unnamed (record { index = n; span = first_place (print ty) })

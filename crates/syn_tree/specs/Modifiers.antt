@@ -1,4 +1,4 @@
--- THE MODIFIERS OF FIELDS AND ITEMS: what syntax they stand for, and the faults of those that nobody expects.
+-- THE MODIFIERS OF FIELDS AND ITEMS: what syntax they represent, and the faults of those that nobody expects.
 use Rattle.std.specs.Prelude.{◌≡◌, ℕ, List, [], ◌∷◌, ◌++◌, Option, Some, None, Result, Ok, Err, codes, slice_index_or}
 use Rattle.syn_grammar.specs.Grammar.{Syntax, Nothing, Both}
 use Rattle.syn_tokens.specs.Faults.{FaultValue, IsSyntaxError}
@@ -48,7 +48,7 @@ abbrev pub word_place : {K : Type 0} → Option (Word K) → Option Span
 word_place None = None
 word_place (Some w) = Some w.span
 
--- where the first character of a mark stands
+-- the span of the first character of a mark
 abbrev pub mark_place : Option Not → Option Span
 mark_place None = None
 mark_place (Some m) = Some (slice_index_or m.spans 0 (record { start = 0; end = 0 }))
@@ -62,7 +62,7 @@ fn_faults m = unexpected (codes "unexpected function modifier") (word_place m.de
 abbrev pub type_faults : TypeModifiers → List FaultValue
 type_faults m = unexpected (codes "unexpected type alias modifier") (word_place m.defaultness)
 
--- `default` before `!`, and `const` behind both
+-- `default` before `!`, and `const` after both
 abbrev pub impl_faults : ImplModifiers → List FaultValue
 impl_faults m =
     unexpected (codes "unexpected impl modifier") (word_place m.defaultness)

@@ -1,4 +1,4 @@
--- THE FIELDS OF A FIELD THAT IS NAMED `_`: kept as tokens, but read as fields.
+-- THE FIELDS OF A FIELD THAT IS NAMED `_`: kept verbatim, but read as fields.
 use Rattle.syn_grammar.specs.Words.{w_struct, w_union}
 use Rattle.syn_grammar.specs.Tokens.{at_word}
 use Rattle.syn_grammar.specs.Grammar.{Grammar, Syntax, Left, Right, word, when◌then◌else◌}

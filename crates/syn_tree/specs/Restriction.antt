@@ -1,4 +1,4 @@
--- WHAT SYNTAX VISIBILITIES STAND FOR, one level at a time, every field.
+-- THE SYNTAX OF VISIBILITIES, one level at a time, every field.
 use Rattle.std.specs.Prelude.{Option, true}
 use Rattle.syn_grammar.specs.Tokens.{Paren, None as Invisible, at_empty_group}
 use Rattle.syn_grammar.specs.Grammar.{Grammar, empty, inside, vanishing, Syntax, Nothing, Both, Left, Right, Node, Vanishing}
@@ -20,6 +20,6 @@ syntax_of_Visibility (Visibility-m.Public p) = Node (Left (Both (pub_syntax p) (
 syntax_of_Visibility (Visibility-m.Restricted r) = Node (Left r)
 syntax_of_Visibility Visibility-m.Inherited = Node (Right (Vanishing true (Right Nothing)))
 
--- an invisible group without content stands for a visibility that isn't written; it isn't kept
+-- an invisible group without content represents a visibility that isn't written; it isn't kept
 abbrev pub unshown_group : Grammar
 unshown_group = vanishing true at_empty_group (inside Invisible empty)

@@ -14,7 +14,7 @@ use syn_parse::read::{End, Read};
 use syn_tokens::punctuated::Punctuated;
 use syn_tokens::token::Comma;
 
-/// Fields without names: none, or one and, behind a comma, the others. The last comma may stand or not.
+/// Fields without names: none, or one followed optionally by a comma and the others. A trailing comma is allowed.
 pub(crate) fn unnamed_fields(input: &mut ParseBuffer<'_>) -> Parsed<Punctuated<Field, Comma>>
     ensures reads { Computes IsSyntax (λ l. list_of itself comma_syntax l.pairs l.last) (parse_rule rules.unnamed_fields input.old) result input.new }
     ensures moved { Kept input.old result input.new }
@@ -22,7 +22,7 @@ pub(crate) fn unnamed_fields(input: &mut ParseBuffer<'_>) -> Parsed<Punctuated<F
     punctuated_list::<End, Comma, _, _>(input, |next| Field::read_unnamed(next))
 }
 
-/// Variants, separated by commas; the last comma may stand or not.
+/// Variants, separated by commas; a trailing comma is allowed.
 pub(crate) fn variants(input: &mut ParseBuffer<'_>) -> Parsed<Punctuated<Variant, Comma>>
     ensures reads { Computes IsSyntax (λ l. list_of itself comma_syntax l.pairs l.last) (parse_rule rules.variants input.old) result input.new }
     ensures moved { Kept input.old result input.new }

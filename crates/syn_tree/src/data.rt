@@ -97,10 +97,10 @@ impl FieldModifiers {
 }
 
 impl Field {
-    /// Parses a field with a name: attributes, a visibility, a name or `_`, `:` and a type; and where `=` stands next, that
-    /// and an expression. Behind `_ :` also `struct` or `union` with fields in braces is a type, which is kept as its tokens.
+    /// Parses a field with a name: attributes, a visibility, a name or `_`, `:` and a type; and if `=` is next, that
+    /// and an expression. After `_ :` also `struct` or `union` with fields in braces is a type, which is kept verbatim.
     ///
-    /// Where the tokens are no such field, or memory is refused, the buffer stands where it stood.
+    /// Where the tokens are no such field, or memory is refused, the buffer is unchanged.
     #[tactic(auto, using(syn_parse::proofs::Refused::refused_by_syntax))]
     pub fn parse_named(input: &mut ParseBuffer<'_>) -> Result<Field>
         ensures outcome { Outcome IsSyntaxError itself (rule rules.named_field) input.old result input.new }
@@ -116,8 +116,8 @@ impl Field {
 
     /// Parses a field without a name: attributes, a visibility and a type, which no `=` may follow.
     ///
-    /// Where the tokens are no such field, or memory is refused, the buffer stands where it stood. The fault of a `=` is
-    /// at the token behind it, as fields without names have no defaults.
+    /// Where the tokens are no such field, or memory is refused, the buffer is unchanged. The fault of a `=` is
+    /// at the token after it, as fields without names have no defaults.
     #[tactic(auto, using(syn_parse::proofs::Refused::refused_by_syntax))]
     pub fn parse_unnamed(input: &mut ParseBuffer<'_>) -> Result<Field>
         ensures outcome { Outcome IsSyntaxError itself (rule rules.unnamed_field) input.old result input.new }

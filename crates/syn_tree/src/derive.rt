@@ -74,7 +74,7 @@ pub struct DataUnion {
     pub fields: FieldsNamed,
 }
 
-/// A struct, an enum or a union: attributes and a visibility, and then what the next word tells.
+/// A struct, an enum or a union: attributes and a visibility, and then by the next word.
 impl Read for DeriveInput {
     ghost form = { of (rule rules.derive_input) };
 
@@ -95,7 +95,7 @@ impl Read for DeriveInput {
     }
 }
 
-/// The kind is told by the word, and the parts of a struct's body by which fields it has.
+/// The kind is decided by the word, and the parts of a struct's body by which fields it has.
 impl Compared for DeriveInput {
     #[tactic(auto, using(syn_lower::proofs::Attributes::same_attributes, crate::proofs::Inputs::same_input))]
     fn is_same(&self, other: &DeriveInput) -> bool {
@@ -118,7 +118,7 @@ fn print_semi(semi_token: &Option<Semi>, out: &mut StreamBuilder) -> Result<(), 
     semi_token.print_in(out)
 }
 
-/// The fields of a struct and its where clause, which stands before fields in braces and else before the `;`.
+/// The fields of a struct and its where clause, which is before fields in braces and else before the `;`.
 #[tactic(auto, using(syn_tokens::proofs::Prints::prints))]
 fn print_body(
     fields: &Fields,
@@ -146,7 +146,7 @@ fn print_body(
     }
 }
 
-/// A struct, behind its visibility.
+/// A struct, after its visibility.
 #[tactic(auto, using(syn_tokens::proofs::Prints::prints))]
 pub(crate) fn print_structure(
     struct_token: &Struct,
@@ -180,7 +180,7 @@ fn print_variants(
     brace_token.close(out)
 }
 
-/// An enum, behind its visibility.
+/// An enum, after its visibility.
 #[tactic(auto, using(syn_tokens::proofs::Prints::prints))]
 pub(crate) fn print_enumeration(
     enum_token: &Enum,
@@ -200,7 +200,7 @@ pub(crate) fn print_enumeration(
     print_variants(brace_token, variants, out)
 }
 
-/// A union, behind its visibility.
+/// A union, after its visibility.
 #[tactic(auto, using(syn_tokens::proofs::Prints::prints))]
 pub(crate) fn print_union(
     union_token: &Union,

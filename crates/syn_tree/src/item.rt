@@ -92,7 +92,7 @@ impl Read for ItemEnum {
     }
 }
 
-/// An enum, behind its attributes.
+/// An enum, after its attributes.
 #[tactic(auto, using(syn_grammar::proofs::Each::enumeration_rest_is))]
 fn enumeration_rest(input: &mut ParseBuffer<'_>) -> Parsed<(Visibility, Ident, Generics, DataEnum)>
     ensures reads { Computes IsSyntax enumeration_rest_syntax (parse_rule rules.enumeration_rest input.old) result input.new }
@@ -126,7 +126,7 @@ impl Read for ItemStruct {
     }
 }
 
-/// A struct, behind its attributes.
+/// A struct, after its attributes.
 #[tactic(auto, using(syn_grammar::proofs::Each::structure_rest_is))]
 fn structure_rest(input: &mut ParseBuffer<'_>) -> Parsed<(Visibility, Ident, Generics, DataStruct)>
     ensures reads { Computes IsSyntax structure_rest_syntax (parse_rule rules.structure_rest input.old) result input.new }
@@ -158,7 +158,7 @@ impl Read for ItemUnion {
     }
 }
 
-/// A union, behind its attributes.
+/// A union, after its attributes.
 #[tactic(auto, using(syn_grammar::proofs::Each::union_item_rest_is))]
 fn union_item_rest(input: &mut ParseBuffer<'_>) -> Parsed<(Visibility, Ident, Generics, DataUnion)>
     ensures reads { Computes IsSyntax union_item_rest_syntax (parse_rule rules.union_item_rest input.old) result input.new }
@@ -169,8 +169,8 @@ fn union_item_rest(input: &mut ParseBuffer<'_>) -> Parsed<(Visibility, Ident, Ge
     Ok((vis, ident, generics, data))
 }
 
-/// A struct, behind these attributes and this visibility: `struct`, a name, generics, and fields in braces, in parentheses or none.
-pub fn struct_behind(
+/// A struct, after these attributes and this visibility: `struct`, a name, generics, and fields in braces, in parentheses or none.
+pub fn struct_after_visibility(
     attrs: Vec<Attribute>,
     vis: Visibility,
     input: &mut ParseBuffer<'_>,
@@ -182,8 +182,8 @@ pub fn struct_behind(
     Ok(item_struct(attrs, vis, ident, generics, data))
 }
 
-/// An enum, behind these attributes and this visibility: `enum`, a name, generics, a where clause, and variants in braces.
-pub fn enum_behind(
+/// An enum, after these attributes and this visibility: `enum`, a name, generics, a where clause, and variants in braces.
+pub fn enum_after_visibility(
     attrs: Vec<Attribute>,
     vis: Visibility,
     input: &mut ParseBuffer<'_>,
@@ -195,8 +195,8 @@ pub fn enum_behind(
     Ok(item_enum(attrs, vis, ident, generics, data))
 }
 
-/// A union, behind these attributes and this visibility: `union`, a name, generics, a where clause, and fields in braces.
-pub fn union_behind(
+/// A union, after these attributes and this visibility: `union`, a name, generics, a where clause, and fields in braces.
+pub fn union_after_visibility(
     attrs: Vec<Attribute>,
     vis: Visibility,
     input: &mut ParseBuffer<'_>,
@@ -208,7 +208,7 @@ pub fn union_behind(
     Ok(item_union(attrs, vis, ident, generics, data))
 }
 
-/// All fields are moved, spans included: the input stands for what the item stands for.
+/// All fields are moved, spans included: the input represents what the item represents.
 impl From<ItemEnum> for DeriveInput {
     ghost from_gives = { λ item input. input ≡ Node (Case rules.enumeration item) };
 
@@ -227,7 +227,7 @@ impl From<ItemEnum> for DeriveInput {
     }
 }
 
-/// All fields are moved, spans included: the input stands for what the item stands for.
+/// All fields are moved, spans included: the input represents what the item represents.
 impl From<ItemStruct> for DeriveInput {
     ghost from_gives = { λ item input. input ≡ Node (Case rules.structure item) };
 
@@ -246,7 +246,7 @@ impl From<ItemStruct> for DeriveInput {
     }
 }
 
-/// All fields are moved, spans included: the input stands for what the item stands for.
+/// All fields are moved, spans included: the input represents what the item represents.
 impl From<ItemUnion> for DeriveInput {
     ghost from_gives = { λ item input. input ≡ Node (Case rules.union_item item) };
 
@@ -326,7 +326,7 @@ pub fn item_union(
     }
 }
 
-/// The where clause stands before the braces.
+/// The where clause is before the braces.
 impl Compared for ItemEnum {
     #[tactic(auto, using(syn_lower::proofs::Attributes::same_attributes))]
     fn is_same(&self, other: &ItemEnum) -> bool {
@@ -340,7 +340,7 @@ impl Compared for ItemEnum {
     }
 }
 
-/// Where the where clause stands is told by the fields.
+/// The fields decide where the where clause is.
 impl Compared for ItemStruct {
     #[tactic(auto, using(syn_lower::proofs::Attributes::same_attributes, crate::proofs::Inputs::same_body))]
     fn is_same(&self, other: &ItemStruct) -> bool {
@@ -355,7 +355,7 @@ impl Compared for ItemStruct {
     }
 }
 
-/// The where clause stands before the fields.
+/// The where clause is before the fields.
 impl Compared for ItemUnion {
     #[tactic(auto, using(syn_lower::proofs::Attributes::same_attributes))]
     fn is_same(&self, other: &ItemUnion) -> bool {
@@ -386,7 +386,7 @@ impl Print for ItemEnum {
     }
 }
 
-/// A `;` is printed behind fields in parentheses and behind none, though there is none, and not behind fields in braces. Inner
+/// A `;` is printed after fields in parentheses and after none, though there is none, and not after fields in braces. Inner
 /// attributes are not printed.
 impl Print for ItemStruct {
     #[tactic(auto, using(syn_tokens::proofs::Prints::prints))]

@@ -23,7 +23,7 @@ pub enum Visibility {
     Public(Pub),
     /// `pub(crate)`, `pub(self)`, `pub(super)`, `pub(in some::path)`
     Restricted(VisRestricted),
-    /// Nothing is written: the item is seen where it stands.
+    /// Nothing is written: the item is seen where it is.
     Inherited,
 }
 
@@ -36,7 +36,7 @@ pub struct VisRestricted {
     pub path: Box<Path>,
 }
 
-/// `pub`, `pub` and a restriction, or nothing, which an invisible group without content may stand for.
+/// `pub`, `pub` and a restriction, or nothing, which an invisible group without content may represent.
 impl Read for Visibility {
     ghost form = { of (rule rules.visibility) };
 
@@ -64,7 +64,7 @@ impl Read for Visibility {
     }
 }
 
-/// An invisible group without content, where one stands next. It isn't kept.
+/// An invisible group without content, where one is next. It isn't kept.
 #[tactic(auto, unfolding(syn_grammar::specs::Take::is_end))]
 fn skip_empty_group(input: &mut ParseBuffer<'_>) -> Parsed<()>
     ensures reads { Computes IsSyntax (λ _. Vanishing true (Right Nothing)) (parse_form unshown_group input.old) result input.new }
@@ -99,7 +99,7 @@ fn restricting_path(input: &mut ParseBuffer<'_>) -> Parsed<(Option<In>, Path)>
     Ok((input.read()?, module_path(input)?))
 }
 
-/// Which variant it is, is told by what stands behind `pub`.
+/// Which variant it is, is decided by what follows `pub`.
 impl Compared for Visibility {
     #[tactic(auto, using(syn_grammar::proofs::Same::and_true))]
     fn is_same(&self, other: &Visibility) -> bool {

@@ -1,4 +1,4 @@
--- In a visible stream no invisible group stands.
+-- A visible stream contains no invisible group.
 use Rattle.std.proofs.Common.{◌≡◌, ℕ, ◌+◌, ◌<◌, ◌≤◌, length, drop, get_or, Bool, true, false, List, [], ◌∷◌, ◌++◌, refl, sym, ap, ◌∙◌, true≢false}
 use Rattle.std.proofs.lemmas.List.{at_drop_more, drop_all}
 use Rattle.syn_grammar.specs.Tokens.{Stream, end, leaf, punct, group, Paren, Brace, Bracket, None, visible, ident, literal, or}
@@ -34,7 +34,7 @@ visible_entries (group Brace o c i m) v = joined (encode i) (close_entry Brace c
 visible_entries (group Bracket o c i m) v = joined (encode i) (close_entry Bracket c _ ∷ encode m) (visible_entries i (and_left (visible i) _ v)) (visible_entries m (and_right (visible i) _ v))
 visible_entries (group None o c i m) v = absurd (true≢false (sym v))
 
--- of what is promised of visible streams, nothing is of others
+-- the contract covers visible streams only, so it holds trivially for others
 pub whole_hidden : {X E : Type 0} (refusal : E → Type 0) (view : X → Syntax) (f : Form) (ts : Stream) (y : Result X E) → invisible_in (encode ts) ≡ true → WholeOutcome refusal view f ts y
 whole_hidden refusal view f ts (Ok x) h = λ v. absurd (true≢false (sym h ∙ visible_entries ts v))
 whole_hidden refusal view f ts (Err e) h = λ v r. absurd (true≢false (sym h ∙ visible_entries ts v))

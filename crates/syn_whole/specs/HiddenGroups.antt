@@ -1,4 +1,4 @@
--- WHETHER AN INVISIBLE GROUP STANDS IN A STREAM, of the entries that it is kept as.
+-- WHETHER A STREAM CONTAINS AN INVISIBLE GROUP, decided from its entries.
 use Rattle.std.specs.Prelude.{Bool, true, false, List, [], ◌∷◌}
 use Rattle.syn_grammar.specs.Tokens.{or}
 use Rattle.syn_tokens.specs.declared.delimiter.Delimiter.{Delimiter}

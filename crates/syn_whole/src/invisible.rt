@@ -1,4 +1,4 @@
-//! Invisible groups that are looked through: those at which a parser is refused give place to their contents.
+//! Opening invisible groups: a group at which the parser fails is replaced by its contents.
 ghost use Rattle.std.specs.Prelude.{◌≡◌};
 ghost use Rattle.syn_tokens.specs.Entries.{encode};
 ghost use Rattle.syn_whole.specs.HiddenGroups.{invisible_in};
@@ -15,10 +15,10 @@ mod choice;
 mod opening;
 mod rebuilt;
 
-/// How often groups are opened at most: where, is found by parsing all once more.
+/// The largest number of rounds that open groups; each round parses the whole stream to find where.
 const MOST: usize = 256;
 
-/// Whether an invisible group stands there, at any depth.
+/// Whether the stream contains an invisible group, at any depth.
 #[tactic(auto, using(crate::proofs::HiddenGroups::invisible_step, crate::proofs::HiddenGroups::invisible_done))]
 pub(crate) fn has_invisible(tokens: &TokenStream) -> bool
     ensures { result ≡ invisible_in (encode tokens.now) }
@@ -31,7 +31,7 @@ pub(crate) fn has_invisible(tokens: &TokenStream) -> bool
     false
 }
 
-/// Parses the stream as a `T`, with those groups opened that are looked through. It is refused as `parse_whole` refuses it then.
+/// Parses the stream as a `T`, with invisible groups opened where that is needed. Then it fails as `parse_whole` does.
 pub(crate) fn parse_opened<T: Parse + Drop>(tokens: &TokenStream) -> Result<T> {
     let mut opening = Opening::new(tokens)?;
     if !open_traits::<T>(&mut opening)? {
@@ -45,7 +45,7 @@ pub(crate) fn parse_opened<T: Parse + Drop>(tokens: &TokenStream) -> Result<T> {
     parse_whole(&opened(&opening)?)
 }
 
-/// Opens the groups that are looked through where a `T` is refused otherwise.
+/// Opens the groups at which the parser of a `T` fails.
 fn open_where_refused<T: Parse + Drop>(opening: &mut Opening<'_>) -> Result<()> {
     for _parse in 0..MOST {
         let Some(place) = refused_at::<T>(opening)? else {
@@ -61,8 +61,8 @@ fn open_where_refused<T: Parse + Drop>(opening: &mut Opening<'_>) -> Result<()> 
     Ok(())
 }
 
-/// Opens the groups in which the trait of an impl stands, as the first type of an impl counts as what its group holds. Answers whether
-/// there was one.
+/// Opens the groups around the traits of impls, since an impl is parsed by what the group of its first type contains. Returns
+/// whether there was such a group.
 fn open_traits<T: Parse + Drop>(opening: &mut Opening<'_>) -> Result<bool> {
     let (mut left, mut found) = (MOST, false);
     for group in 0..opening.len() {

@@ -1,4 +1,4 @@
-//! Whole token streams, parsed with the invisible groups in them looked through.
+//! Parsing whole token streams, with invisible groups replaced by their contents where the grammar doesn't accept them.
 #![tactic(auto)]
 
 mod invisible;

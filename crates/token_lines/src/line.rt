@@ -86,7 +86,7 @@ fn add_punct(punct: &Punct, out: &mut String) -> Result<(), AllocError> {
     Ok(())
 }
 
-/// Adds a word and where it stands, behind a blank unless it is the first of the line.
+/// Adds a word and its span, after a blank unless it is the first of the line.
 fn add(out: &mut String, word: &str, span: Span) -> Result<(), AllocError> {
     if !out.is_empty() {
         out.push(' ')?;

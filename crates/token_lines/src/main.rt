@@ -3,7 +3,7 @@
 //! Each line of standard input is the hex digits of a text's bytes. For each, one line goes to standard output:
 //! `refused at BYTE: TEXT`, or the tokens of the text with a blank between them, then a tab and the hex digits of the token
 //! text. A token is its kind, where it begins and ends, and its text in hex digits: `Ident:0:1:61`, `Int:0:1:31`; of a mark's
-//! character also its spacing, as `Punct:0:1:2b:Joint`; a group is its two delimiters, `(:0:1` and `):1:2`, and what stands in it.
+//! character also its spacing, as `Punct:0:1:2b:Joint`; a group is its two delimiters, `(:0:1` and `):1:2`, and what is in it.
 //!
 //! The status is 0; 1 where a line is no hex digits of a text in UTF-8, or can't be read or written; 3 where memory is
 //! refused.
@@ -20,7 +20,7 @@ use std::alloc::Global;
 use std::io::{self, BufReader, BufWriter, Read, Write};
 use std::process::ExitCode;
 
-/// Writes the line of each line of the input, in order, up to the first that is no text, and answers the exit status.
+/// Writes the line of each line of the input, in order, up to the first that is no text, and returns the exit status.
 pub fn run<R: Read + Drop, W: Write + Drop>(alloc: Global, input: R, output: W) -> u8
     ensures known { (result ≡ 0) ⊎ ((result ≡ 1) ⊎ (result ≡ 3)) }
 {

@@ -3,8 +3,8 @@
 //!
 //! The kinds are: identifiers that are names, keywords, lifetimes, marks, literals by what they are, and groups by their
 //! delimiters. A mark is the longest one that the library knows at that place, such as `<<=`; `..=` counts as `..` and `=`. The
-//! text of a group is its two delimiters, whatever stands in it. A doc comment counts as the tokens of the attribute that it is.
-//! Lengths are in bytes, and of texts of one length the first is told, in quotes and with escapes, so that a line stays one.
+//! text of a group is its two delimiters, whatever is in it. A doc comment counts as the tokens of the attribute that it is.
+//! Lengths are in bytes, and of texts of one length the first is reported, in quotes and with escapes, so that a line stays one.
 //!
 //! The status is 0; 1 where the text is refused or can't be read or written, with a line on standard error; 3 where memory
 //! is refused.
@@ -24,7 +24,7 @@ use std::alloc::Global;
 use std::io::{Read, Write};
 use std::process::ExitCode;
 
-/// Counts the tokens of the text in `input`, writes the lines to `output` once all is counted, and answers the exit status.
+/// Counts the tokens of the text in `input`, writes the lines to `output` once all is counted, and returns the exit status.
 /// Where it fails, one line goes to `faults`.
 pub fn run<R: Read + Drop, W: Write + Drop, V: Write + Drop>(
     alloc: Global,
@@ -67,7 +67,7 @@ fn read_text<R: Read + Drop>(alloc: Global, mut input: R) -> Result<String, Fail
     String::from_utf8(bytes).map_err(|_| Failure::NotUtf8)
 }
 
-/// Writes the failure's line, and answers its status, also where the line can't be written.
+/// Writes the failure's line, and returns its status, also where the line can't be written.
 fn report<V: Write + Drop>(mut faults: V, failure: &Failure) -> u8
     ensures known { (result ≡ 1) ⊎ (result ≡ 3) }
     ensures memory { (result ≡ 3) ↔ (failure.now ≡ OutOfMemory) }

@@ -11,7 +11,7 @@ use syn::reader::read_tokens;
 use syn::token::{Delimiter, IdentRef, Punct, Spacing, TokenTreeRef};
 use syn::token_stream::Iter;
 
-/// The tokens of a text, by kind, at every depth. Each tree is looked at once, and where a mark may go on once more.
+/// The tokens of a text, by kind, at every depth. Each tree is looked at once, and where a mark may continue once more.
 pub(crate) fn count(alloc: Global, text: &str) -> Result<Stats, Failure>
     ensures { OnOk result (HasTokens text.now) }
 {

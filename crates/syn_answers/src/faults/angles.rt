@@ -2,12 +2,12 @@
 use syn_tokens::punct::{Punct, Spacing};
 use syn_tokens::stream::cursor::TokenTreeRef;
 
-/// How many `<` are open behind the trees that were passed. The `>` of a `->` closes none.
+/// How many `<` are open after the trees passed so far. The `>` of a `->` closes none.
 #[derive(Drop)]
 pub(crate) struct Angles {
     open: usize,
-    /// Whether the last tree is a `-` that is joined to the mark behind it.
-    behind_dash: bool,
+    /// Whether the last tree is a `-` that is joined to the mark after it.
+    after_dash: bool,
 }
 
 impl Angles {
@@ -15,7 +15,7 @@ impl Angles {
     pub(crate) fn none() -> Angles {
         Angles {
             open: 0,
-            behind_dash: false,
+            after_dash: false,
         }
     }
 
@@ -28,18 +28,18 @@ impl Angles {
     pub(crate) fn pass(&mut self, tree: &TokenTreeRef<'_>) {
         match tree {
             TokenTreeRef::Punct(punct) => self.pass_mark(punct),
-            _ => self.behind_dash = false,
+            _ => self.after_dash = false,
         }
     }
 
     /// Goes past a character of a mark.
     fn pass_mark(&mut self, punct: &Punct) {
-        let behind_dash = self.behind_dash;
-        self.behind_dash = punct.character() == '-' && punct.spacing == Spacing::Joint;
+        let after_dash = self.after_dash;
+        self.after_dash = punct.character() == '-' && punct.spacing == Spacing::Joint;
         match punct.character() {
             '<' => self.open = self.open.saturating_add(1),
             '>' => {
-                if !behind_dash {
+                if !after_dash {
                     self.open = self.open.saturating_sub(1);
                 }
             }

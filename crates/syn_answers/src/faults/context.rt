@@ -1,33 +1,33 @@
-//! In what a token stands, as the words before it tell. In a stream that is read up to there, they are what they look like.
+//! The context of a token, by the words before it. The stream is read up to there, so that they are what they look like.
 use crate::faults::angles::Angles;
 use syn_recognize::Rule;
 use syn_tokens::delimiter::Delimiter;
 use syn_tokens::stream::TokenStream;
 use syn_tokens::stream::cursor::{Cursor, GroupRef, TokenTreeRef};
 
-/// In what trees stand.
+/// What a token is in.
 #[derive(Drop)]
 pub(crate) enum Context<'a> {
     /// In the trees of a use.
     Use,
-    /// Behind `fn`, before the arguments.
+    /// After `fn`, before the arguments.
     Function,
-    /// In the arguments of a function, which are these.
+    /// In the arguments of a function, which begin here.
     Arguments(Cursor<'a>),
-    /// Behind `impl`, behind which these stand, before `for`, `where` and the members.
+    /// After `impl`, before `for`, `where` and the members; the tokens after `impl` begin here.
     Impl(Cursor<'a>),
     /// In anything else.
     Other,
 }
 
-/// What stands directly before a place.
+/// What is directly before a place.
 #[derive(Clone, Copy, Debug, PartialEq, Eq)]
 pub(crate) enum Before {
     /// The word `as`.
     As,
-    /// A comma in no `< >`, and attributes behind it.
+    /// A comma outside any `< >`, and attributes after it.
     Comma,
-    /// The `#` of an attribute that stands there.
+    /// The `#` of an attribute that is next.
     Pound,
     Other,
 }
@@ -37,14 +37,14 @@ pub(crate) enum Before {
 pub(crate) struct Place<'a> {
     pub context: Context<'a>,
     pub before: Before,
-    /// What stands from there on, up to the end of the stream or of the group.
+    /// The tokens from the place on, up to the end of the stream or of the group.
     pub trees: Cursor<'a>,
     /// The `<` that are open since the context began.
     angles: Angles,
 }
 
-/// The place of the token at this byte in a stream that the rule reads; at the end of the stream where all tokens stand before it.
-/// It goes down to the group in which the token stands, past each tree before it once.
+/// The place of the token at this byte in a stream that the rule reads; the end of the stream if all tokens are before it. Descends into
+/// the groups around the token, and passes each tree before it once.
 pub(crate) fn place_at<'a>(byte: usize, rule: Rule, tokens: &'a TokenStream) -> Place<'a> {
     let context = match rule {
         Rule::USE_TREE => Context::Use,
@@ -70,7 +70,7 @@ impl<'a> Place<'a> {
         }
     }
 
-    /// Goes past the next tree, or into it, where that leads to the byte; else the place is reached.
+    /// Passes or enters the next tree if that leads to the byte; returns false at the place.
     fn moves_to(&mut self, byte: usize) -> bool {
         let Some((tree, behind)) = self.trees.split() else {
             return false;
@@ -98,7 +98,7 @@ impl<'a> Place<'a> {
         *self = Place::begins(self.context_in(&group), group.content);
     }
 
-    /// In what the trees of a group stand.
+    /// The context of the trees of a group.
     fn context_in(&self, group: &GroupRef<'a>) -> Context<'a> {
         match (&self.context, group.delimiter) {
             (Context::Use, Delimiter::Brace) => Context::Use,
@@ -113,9 +113,9 @@ impl<'a> Place<'a> {
         }
     }
 
-    /// Goes past a tree, behind which these stand.
+    /// Passes a tree that these trees follow.
     fn pass(&mut self, tree: &TokenTreeRef<'a>, behind: Cursor<'a>) {
-        self.before = self.before_behind(tree);
+        self.before = self.before_after(tree);
         self.angles.pass(tree);
         match tree {
             TokenTreeRef::Ident(ident) => self.pass_word(ident.text(), &behind),
@@ -126,8 +126,8 @@ impl<'a> Place<'a> {
         self.trees = behind;
     }
 
-    /// What stands before the place behind a tree.
-    fn before_behind(&self, tree: &TokenTreeRef<'_>) -> Before {
+    /// What is before the place after this tree.
+    fn before_after(&self, tree: &TokenTreeRef<'_>) -> Before {
         match tree {
             TokenTreeRef::Ident(ident) => {
                 if ident.is("as") {
@@ -170,7 +170,7 @@ impl<'a> Place<'a> {
         self.angles = Angles::none();
     }
 
-    /// What a word begins or ends, behind which these trees stand.
+    /// Begins or ends a context at this word, which these trees follow.
     fn pass_word(&mut self, word: &str, behind: &Cursor<'a>) {
         match word {
             "use" => self.begin(Context::Use),
@@ -185,7 +185,7 @@ impl<'a> Place<'a> {
         }
     }
 
-    /// What a character of a mark ends: `;` an item, and the dots of a variadic the arguments.
+    /// Ends a context at this character of a mark: `;` ends an item, and the dots of a variadic end the arguments.
     fn pass_mark(&mut self, character: char) {
         match character {
             ';' => self.begin(Context::Other),
@@ -198,7 +198,7 @@ impl<'a> Place<'a> {
         }
     }
 
-    /// What a group ends: that in parentheses what stands before the arguments, and that in braces what stands before the members.
+    /// Ends a context at a group: parentheses end what precedes the arguments, and braces what precedes the members.
     fn pass_group(&mut self, delimiter: Delimiter) {
         let ends = match (&self.context, delimiter) {
             (Context::Function, Delimiter::Paren) => true,

@@ -1,13 +1,13 @@
-//! Traits of impls that are none, and impls that deny nothing.
+//! Impls whose trait is no path, and negative impls without a trait.
 use crate::faults::Fault;
 use crate::faults::angles::Angles;
 use crate::faults::context::{Context, Place};
-use crate::faults::marks::{behind_lifetime, is_at, is_at_both, is_at_word};
+use crate::faults::marks::{after_lifetime, is_at, is_at_both, is_at_word};
 use syn_tokens::delimiter::Delimiter;
 use syn_tokens::punct::Punct;
 use syn_tokens::stream::cursor::{Cursor, TokenTreeRef};
 
-/// Whether generics stand next, where a type may stand too.
+/// Whether generics are next, where a type may be too.
 fn is_at_generics(trees: &Cursor<'_>) -> bool {
     if !is_at('<', trees) {
         return false;
@@ -18,9 +18,9 @@ fn is_at_generics(trees: &Cursor<'_>) -> bool {
     }
 }
 
-/// Whether a parameter of generics stands next: `#`, a lifetime, `const`, or an identifier from which no type goes on.
+/// Whether a generic parameter is next: `#`, a lifetime, `const`, or an identifier after which no type continues.
 fn is_at_parameter(trees: &Cursor<'_>) -> bool {
-    if is_at('#', trees) || behind_lifetime(trees).is_some() || is_at_word("const", trees) {
+    if is_at('#', trees) || after_lifetime(trees).is_some() || is_at_word("const", trees) {
         return true;
     }
     match trees.split_ident() {
@@ -29,7 +29,7 @@ fn is_at_parameter(trees: &Cursor<'_>) -> bool {
     }
 }
 
-/// Whether what a type goes on with behind an identifier stands next: `::`, `<` and not `<=`, a group in parentheses, or `as`.
+/// Whether the next token continues a type after an identifier: `::`, `<` and not `<=`, a group in parentheses, or `as`.
 fn is_at_type_rest(trees: &Cursor<'_>) -> bool {
     is_at_both(':', ':', trees)
         || (is_at('<', trees) && !is_at_both('<', '=', trees))
@@ -37,8 +37,8 @@ fn is_at_type_rest(trees: &Cursor<'_>) -> bool {
         || is_at_word("as", trees)
 }
 
-/// What stands behind the generics, where they stand next.
-fn behind_generics<'a>(trees: &Cursor<'a>) -> Cursor<'a> {
+/// The tokens after the generics, if they are next.
+fn after_generics<'a>(trees: &Cursor<'a>) -> Cursor<'a> {
     let mut rest = trees.fork();
     if !is_at_generics(trees) {
         return rest;
@@ -57,16 +57,16 @@ fn behind_generics<'a>(trees: &Cursor<'a>) -> Cursor<'a> {
     rest
 }
 
-/// The `!` before the first type of an impl, and the type with what stands behind it. The `!` before the members is a type itself.
+/// The `!` before the first type of an impl, and the tokens from the type on. A `!` before the members is itself the type.
 #[derive(Drop)]
 struct Header<'a> {
     bang: Option<Punct>,
     ty: Cursor<'a>,
 }
 
-/// What stands behind the generics of an impl.
-fn header_behind<'a>(behind_impl: &Cursor<'a>) -> Header<'a> {
-    let ty = behind_generics(behind_impl);
+/// The header after the generics of an impl.
+fn header_after<'a>(after_impl: &Cursor<'a>) -> Header<'a> {
+    let ty = after_generics(after_impl);
     match ty.split_punct() {
         Some((punct, behind)) => {
             if punct.character() == '!' && !behind.is_at_group(Delimiter::Brace) {
@@ -82,15 +82,15 @@ fn header_behind<'a>(behind_impl: &Cursor<'a>) -> Header<'a> {
     }
 }
 
-/// The fault of an impl without a trait that is negative, where `for` is lacking.
+/// The error of a negative impl without a trait, where `for` is missing.
 pub(crate) fn negative_inherent(place: &Place<'_>) -> Option<Fault> {
     let Context::Impl(behind) = &place.context else {
         return None;
     };
-    negative(header_behind(behind).bang)
+    negative(header_after(behind).bang)
 }
 
-/// The fault of this `!`.
+/// The error of this `!`.
 fn negative(bang: Option<Punct>) -> Option<Fault> {
     let bang = bang?;
     Some(Fault {
@@ -99,19 +99,19 @@ fn negative(bang: Option<Punct>) -> Option<Fault> {
     })
 }
 
-/// The fault of a type that stands in place of a trait, where the `for` behind it is reached.
+/// The error of a type in place of a trait, at the `for` after it.
 pub(crate) fn no_trait(place: &Place<'_>) -> Option<Fault> {
     let Context::Impl(behind) = &place.context else {
         return None;
     };
     if is_at_word("for", &place.trees) {
-        no_trait_at(&header_behind(behind).ty)
+        no_trait_at(&header_after(behind).ty)
     } else {
         None
     }
 }
 
-/// The fault of this type.
+/// The error of this type.
 fn no_trait_at(ty: &Cursor<'_>) -> Option<Fault> {
     let (first, _) = ty.split()?;
     Some(Fault {
@@ -120,12 +120,12 @@ fn no_trait_at(ty: &Cursor<'_>) -> Option<Fault> {
     })
 }
 
-/// The fault of an impl that is negative where its first type, which is reached, is no path.
+/// The error of a negative impl at its first type, where that is no path.
 pub(crate) fn negative_of_type(place: &Place<'_>) -> Option<Fault> {
     let Context::Impl(behind) = &place.context else {
         return None;
     };
-    let header = header_behind(behind);
+    let header = header_after(behind);
     if header.bang.is_none()
         || header.ty.len() != place.trees.len()
         || !is_at_other_type(&header.ty)
@@ -139,7 +139,7 @@ pub(crate) fn negative_of_type(place: &Place<'_>) -> Option<Fault> {
     }
 }
 
-/// Whether what begins a type that is no path stands next.
+/// Whether the next token begins a type that is no path.
 fn is_at_other_type(trees: &Cursor<'_>) -> bool {
     is_at('&', trees)
         || is_at('*', trees)
@@ -149,7 +149,7 @@ fn is_at_other_type(trees: &Cursor<'_>) -> bool {
         || trees.is_at_group(Delimiter::Bracket)
 }
 
-/// Whether `for` stands behind the type that stands next, as far as the first group in braces, `where` or `;` tells.
+/// Whether `for` follows the type that is next, before the first group in braces, `where` or `;`.
 fn is_before_for(ty: &Cursor<'_>) -> bool {
     let mut rest = ty.fork();
     let mut angles = Angles::none();
@@ -169,7 +169,7 @@ fn is_before_for(ty: &Cursor<'_>) -> bool {
     false
 }
 
-/// Whether the tree stands behind types alone, and in none.
+/// Whether the tree ends a type: it follows types, and is in none.
 fn ends_type(tree: &TokenTreeRef<'_>) -> bool {
     match tree {
         TokenTreeRef::Ident(ident) => ident.is("where"),

@@ -1,8 +1,8 @@
-//! Marks and words that stand next.
+//! Marks and words that are next.
 use syn_tokens::punct::Spacing;
 use syn_tokens::stream::cursor::Cursor;
 
-/// Whether a mark that begins with this character stands next.
+/// Whether a mark that begins with this character is next.
 pub(crate) fn is_at(character: char, trees: &Cursor<'_>) -> bool {
     match trees.split_punct() {
         Some((punct, _)) => punct.character() == character,
@@ -10,7 +10,7 @@ pub(crate) fn is_at(character: char, trees: &Cursor<'_>) -> bool {
     }
 }
 
-/// Whether this word stands next.
+/// Whether this word is next.
 pub(crate) fn is_at_word(word: &str, trees: &Cursor<'_>) -> bool {
     match trees.split_ident() {
         Some((ident, _)) => ident.is(word),
@@ -18,7 +18,7 @@ pub(crate) fn is_at_word(word: &str, trees: &Cursor<'_>) -> bool {
     }
 }
 
-/// What stands behind the character of a mark, where it stands next and is joined to the mark behind it.
+/// The tokens after this character of a mark, if it is next and joined to the mark after it.
 fn behind_joint<'a>(character: char, trees: &Cursor<'a>) -> Option<Cursor<'a>> {
     let (punct, behind) = trees.split_punct()?;
     if punct.character() == character && punct.spacing == Spacing::Joint {
@@ -28,7 +28,7 @@ fn behind_joint<'a>(character: char, trees: &Cursor<'a>) -> Option<Cursor<'a>> {
     }
 }
 
-/// Whether this mark of two characters stands next.
+/// Whether this mark of two characters is next.
 pub(crate) fn is_at_both(first: char, second: char, trees: &Cursor<'_>) -> bool {
     match behind_joint(first, trees) {
         Some(behind) => is_at(second, &behind),
@@ -36,17 +36,17 @@ pub(crate) fn is_at_both(first: char, second: char, trees: &Cursor<'_>) -> bool 
     }
 }
 
-/// What stands behind the lifetime that stands next.
-pub(crate) fn behind_lifetime<'a>(trees: &Cursor<'a>) -> Option<Cursor<'a>> {
+/// The tokens after the lifetime, if one is next.
+pub(crate) fn after_lifetime<'a>(trees: &Cursor<'a>) -> Option<Cursor<'a>> {
     let (_name, behind) = behind_joint('\'', trees)?.split_ident()?;
     Some(behind)
 }
 
-/// What stands behind the attributes that stand next.
+/// The tokens after the attributes that are next.
 pub(crate) fn behind_attributes<'a>(trees: &Cursor<'a>) -> Cursor<'a> {
     let mut rest = trees.fork();
     for _tree in 0..trees.len() {
-        let Some(behind) = behind_attribute(&rest) else {
+        let Some(behind) = after_attribute(&rest) else {
             return rest;
         };
         rest = behind;
@@ -54,8 +54,8 @@ pub(crate) fn behind_attributes<'a>(trees: &Cursor<'a>) -> Cursor<'a> {
     rest
 }
 
-/// What stands behind the attribute that stands next.
-fn behind_attribute<'a>(trees: &Cursor<'a>) -> Option<Cursor<'a>> {
+/// The tokens after the attribute, if one is next.
+fn after_attribute<'a>(trees: &Cursor<'a>) -> Option<Cursor<'a>> {
     let (punct, behind) = trees.split_punct()?;
     if punct.character() != '#' {
         return None;

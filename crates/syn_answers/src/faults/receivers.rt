@@ -1,29 +1,29 @@
-//! Receivers where none may stand.
+//! Receivers where none is accepted.
 use crate::faults::Fault;
 use crate::faults::context::{Before, Context, Place};
-use crate::faults::marks::{behind_attributes, behind_lifetime, is_at, is_at_both};
-use crate::names::behind_mut;
+use crate::faults::marks::{after_lifetime, behind_attributes, is_at, is_at_both};
+use crate::names::after_mut;
 use syn_tokens::ident::ident_ref::IdentRef;
 use syn_tokens::span::Span;
 use syn_tokens::stream::cursor::Cursor;
 
-/// What stands behind `&` and a lifetime, where they stand next.
-fn behind_reference<'a>(trees: &Cursor<'a>) -> Cursor<'a> {
+/// The tokens after `&` and a lifetime, if they are next.
+fn after_reference<'a>(trees: &Cursor<'a>) -> Cursor<'a> {
     if !is_at('&', trees) {
         return trees.fork();
     }
     let Some((_and, behind)) = trees.split() else {
         return trees.fork();
     };
-    match behind_lifetime(&behind) {
+    match after_lifetime(&behind) {
         Some(behind) => behind,
         None => behind,
     }
 }
 
-/// The `self` of what looks like a receiver and stands next, and what stands behind it.
+/// The `self` of what looks like a receiver, if one is next, and the tokens after it.
 fn split_self<'a>(trees: &Cursor<'a>) -> Option<(IdentRef<'a>, Cursor<'a>)> {
-    let (ident, behind) = behind_mut(&behind_reference(trees)).split_ident()?;
+    let (ident, behind) = after_mut(&after_reference(trees)).split_ident()?;
     if ident.is("self") {
         Some((ident, behind))
     } else {
@@ -31,7 +31,7 @@ fn split_self<'a>(trees: &Cursor<'a>) -> Option<(IdentRef<'a>, Cursor<'a>)> {
     }
 }
 
-/// Where the `self` of the receiver stands that stands next. A `self` before `::` is none.
+/// The span of the `self` of the receiver that is next. A `self` before `::` is none.
 fn receiver(trees: &Cursor<'_>) -> Option<Span> {
     let (ident, behind) = split_self(trees)?;
     if is_at_both(':', ':', &behind) {
@@ -41,7 +41,7 @@ fn receiver(trees: &Cursor<'_>) -> Option<Span> {
     }
 }
 
-/// The fault of a receiver behind other arguments.
+/// The error of a receiver after other arguments.
 pub(crate) fn late_receiver(place: &Place<'_>) -> Option<Fault> {
     let Context::Arguments(arguments) = &place.context else {
         return None;
@@ -57,7 +57,7 @@ pub(crate) fn late_receiver(place: &Place<'_>) -> Option<Fault> {
     Some(Fault { span, text })
 }
 
-/// The fault of a `::` at this byte behind the `self` of a stream that is to be a receiver.
+/// The error of a `::` at this byte, after the `self` of a stream that should be a receiver.
 pub(crate) fn path_in_place_of_receiver(byte: usize, trees: &Cursor<'_>) -> Option<Fault> {
     let (_word, behind) = split_self(trees)?;
     let (colon, _) = behind.split_punct()?;

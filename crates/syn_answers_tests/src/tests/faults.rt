@@ -1,4 +1,4 @@
-//! What is said of a text that is refused, and where, where more than one token tells it.
+//! The message and the place of a refusal that depends on more than one token.
 use crate::tests::support::{assert_text, fault, list_fault};
 use std::alloc::Global;
 use std::process::Abort;
@@ -101,7 +101,7 @@ const ARGUMENTS: &[Refused] = &[
     ("fn f(a: [u8; { g(a, self b) }])", "25: unexpected token"),
 ];
 
-/// A receiver stands first.
+/// A receiver is first.
 #[test]
 fn receivers_among_arguments(rt: HostRuntime) {
     assert_faults(&rt, rt.alloc(), Rule::SIGNATURE, ARGUMENTS);
@@ -136,7 +136,7 @@ const IMPLS: &[Refused] = &[
     ("impl <T::B>::A for B {}", "5: expected trait path"),
     ("impl <T<A>>::B for C {}", "5: expected trait path"),
     ("impl <T(A)>::B for C {}", "5: expected trait path"),
-    // where a `for` stands behind more than a type, and where something else stands behind a type
+    // where a `for` follows more than a type, and where something else follows a type
     ("impl A for B for C {}", "13: expected curly braces"),
     ("impl &A where T: X for B {}", "19: expected curly braces"),
     ("impl (A) b for C {}", "9: expected curly braces"),
@@ -153,7 +153,7 @@ const IMPLS: &[Refused] = &[
     ),
 ];
 
-/// An impl is of a trait where `for` stands, and a negative one always.
+/// An impl is of a trait if there is `for`, and a negative one always.
 #[test]
 fn traits_of_impls(rt: HostRuntime) {
     assert_faults(&rt, rt.alloc(), Rule::IMPL_DEFINITION, IMPLS);

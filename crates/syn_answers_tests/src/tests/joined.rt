@@ -1,7 +1,7 @@
 //! Items that are joined.
 use crate::tests::support::{assert_text, joined};
 
-/// Each piece is printed as an item, one behind the other.
+/// Each piece is printed as an item, one after the other.
 #[test]
 fn items_in_order(rt: HostRuntime) {
     let found = joined(rt.alloc(), &["struct A<>;", "m!{}", "struct B;"]);
@@ -25,7 +25,7 @@ fn one_item_a_piece(rt: HostRuntime) {
     assert_text(&rt, joined(rt.alloc(), &["struct A;", ""]), "refused at 0");
 }
 
-/// What is kept as tokens is joined too.
+/// What is kept verbatim is joined too.
 #[test]
 fn kept_items(rt: HostRuntime) {
     let found = joined(rt.alloc(), &["fn f();", "#[a] use {::b};"]);

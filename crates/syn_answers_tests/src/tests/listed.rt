@@ -1,14 +1,14 @@
 //! Items that are listed.
 use crate::tests::support::{assert_text, names};
 
-/// The kinds of items, the names that some have, and where they stand.
+/// The kinds of items, the names that some have, and their spans.
 #[test]
 fn kinds_and_names(rt: HostRuntime) {
     let found = names(rt.alloc(), "struct A; use b::c; impl A {}");
     assert_text(&rt, found, "Struct A@7..8;Use;Impl;");
 }
 
-/// A name is the identifier of the item, and none that stands before it or in a group.
+/// A name is the identifier of the item, and none that is before it or in a group.
 #[test]
 fn names_of_items(rt: HostRuntime) {
     let found = names(
@@ -25,7 +25,7 @@ fn names_of_items(rt: HostRuntime) {
     assert_text(&rt, names(rt.alloc(), "trait A = B;"), "TraitAlias A@6..7;");
 }
 
-/// What is kept as tokens has no name, whatever it looks like.
+/// What is kept verbatim has no name, whatever it looks like.
 #[test]
 fn kept_items(rt: HostRuntime) {
     let found = names(rt.alloc(), "fn f(); static X = 1; const trait A = B;");

@@ -25,7 +25,7 @@ fn refusal(alloc: Global, error: Error) -> Result<String> {
     Ok(format!(in alloc; "refused at {start}")?)
 }
 
-/// Where an answer is refused, and what is said: `1: no item`; where it isn't, `read`.
+/// Where a result is refused, and what is said: `1: no item`; where it isn't, `read`.
 fn fault_of<T: Drop>(alloc: Global, answer: Result<T>) -> Result<String> {
     match answer {
         Ok(_) => Ok(String::from_str(alloc, "read")?),
@@ -65,7 +65,7 @@ pub fn joined(alloc: Global, texts: &[&str]) -> Result<String> {
     told(alloc, join_items(alloc, pieces.as_slice()))
 }
 
-/// What a file lists: of each item its name and where that stands, or `-`.
+/// What a file lists: of each item its name and its span, or `-`.
 pub fn names(alloc: Global, text: &str) -> Result<String> {
     let items = match list_items(&read_tokens(alloc, text)?) {
         Ok(items) => items,

@@ -42,7 +42,7 @@ impl TryClone for Local {
 
 impl TryClone for LocalModifiers {
     fn try_clone(&self, _alloc: Global) -> error::Result<LocalModifiers> {
-        Ok(LocalModifiers {})
+        Ok(*self)
     }
 }
 

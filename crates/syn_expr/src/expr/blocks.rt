@@ -1,4 +1,4 @@
-//! Blocks, loops and `if` as expressions. Inner attributes among `attrs` stand in the braces of the block.
+//! Blocks, loops and `if` as expressions. Inner attributes among `attrs` are in the braces of the block.
 
 use crate::nested::compare::{CompareNested, CompareOf, same_else, same_statements};
 use crate::nested::copy::{CopyNested, CopyOf, copied, copy_else, copy_operand};
@@ -43,7 +43,7 @@ pub struct ExprForLoop {
     pub body: Block,
 }
 
-/// `if` and its branches. What stands behind `else` is a block or another `if`; of a tree made by hand anything else is printed in braces.
+/// `if` and its branches. What follows `else` is a block or another `if`; of a tree made by hand anything else is printed in braces.
 #[cycle(expressions)]
 #[derive(Drop)]
 pub struct ExprIf {
@@ -98,7 +98,7 @@ impl PrintNested<Expr> for ExprBlock {
 }
 
 impl CompareNested<Expr> for ExprBlock {
-    #[tactic(auto, using(syn_lower::proofs::Bodies::same_behind_one))]
+    #[tactic(auto, using(syn_lower::proofs::Bodies::same_after_one))]
     fn is_same_nested<N: CompareOf<Expr>>(&self, nested: &N, other: &ExprBlock) -> bool {
         self.attrs.is_same(&other.attrs)
             && self.label.is_same(&other.label)
@@ -124,7 +124,7 @@ impl PrintNested<Expr> for ExprForLoop {
 }
 
 impl CompareNested<Expr> for ExprForLoop {
-    #[tactic(auto, using(syn_lower::proofs::Bodies::same_behind_five))]
+    #[tactic(auto, using(syn_lower::proofs::Bodies::same_after_five))]
     fn is_same_nested<N: CompareOf<Expr>>(&self, nested: &N, other: &ExprForLoop) -> bool {
         self.attrs.is_same(&other.attrs)
             && self.label.is_same(&other.label)
@@ -151,7 +151,7 @@ impl PrintNested<Expr> for ExprLoop {
 }
 
 impl CompareNested<Expr> for ExprLoop {
-    #[tactic(auto, using(syn_lower::proofs::Bodies::same_behind_two))]
+    #[tactic(auto, using(syn_lower::proofs::Bodies::same_after_two))]
     fn is_same_nested<N: CompareOf<Expr>>(&self, nested: &N, other: &ExprLoop) -> bool {
         self.attrs.is_same(&other.attrs)
             && self.label.is_same(&other.label)
@@ -174,7 +174,7 @@ impl PrintNested<Expr> for ExprUnsafe {
 }
 
 impl CompareNested<Expr> for ExprUnsafe {
-    #[tactic(auto, using(syn_lower::proofs::Bodies::same_behind_one))]
+    #[tactic(auto, using(syn_lower::proofs::Bodies::same_after_one))]
     fn is_same_nested<N: CompareOf<Expr>>(&self, nested: &N, other: &ExprUnsafe) -> bool {
         self.attrs.is_same(&other.attrs)
             && self.unsafe_token.is_same(&other.unsafe_token)
@@ -198,7 +198,7 @@ impl PrintNested<Expr> for ExprWhile {
 }
 
 impl CompareNested<Expr> for ExprWhile {
-    #[tactic(auto, using(syn_lower::proofs::Bodies::same_behind_three))]
+    #[tactic(auto, using(syn_lower::proofs::Bodies::same_after_three))]
     fn is_same_nested<N: CompareOf<Expr>>(&self, nested: &N, other: &ExprWhile) -> bool {
         self.attrs.is_same(&other.attrs)
             && self.label.is_same(&other.label)

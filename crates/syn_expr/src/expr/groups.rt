@@ -49,7 +49,7 @@ pub struct ExprRepeat {
     pub len: Box<Expr>,
 }
 
-/// A tuple. One value without a comma behind it is printed with one, since it would be an expression in parentheses else.
+/// A tuple. One value without a comma after it is printed with one, since it would be an expression in parentheses else.
 #[cycle(expressions)]
 #[derive(Drop)]
 pub struct ExprTuple {
@@ -58,7 +58,7 @@ pub struct ExprTuple {
     pub elems: Punctuated<Expr, Comma>,
 }
 
-/// Behind one expression alone a comma is printed in any case.
+/// After one expression alone a comma is printed in any case.
 impl PrintNested<Expr> for ExprTuple {
     #[tactic(auto, using(syn_tokens::proofs::Prints::groups, syn_lower::proofs::Types::print_elements, syn_lower::proofs::Smaller::lists))]
     fn print_nested<N: PrintOf<Expr>>(

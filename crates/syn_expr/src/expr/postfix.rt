@@ -1,4 +1,4 @@
-//! Expressions with what goes on behind them.
+//! Expressions that continue another: calls, indices, members, operators.
 
 use crate::Expr;
 use syn_lower::{AngleBracketedGenericArguments, Attribute, Member};
@@ -26,7 +26,7 @@ pub struct ExprField {
     pub member: Member,
 }
 
-/// An expression, and another in brackets behind it.
+/// An expression, and another in brackets after it.
 #[cycle(expressions)]
 #[derive(Drop)]
 pub struct ExprIndex {
@@ -36,7 +36,7 @@ pub struct ExprIndex {
     pub index: Box<Expr>,
 }
 
-/// A call of a method: `.` and its name, perhaps generic arguments behind `::`, and arguments in parentheses.
+/// A call of a method: `.` and its name, perhaps generic arguments after `::`, and arguments in parentheses.
 #[cycle(expressions)]
 #[derive(Drop)]
 pub struct ExprMethodCall {

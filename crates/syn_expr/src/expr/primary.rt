@@ -1,4 +1,4 @@
-//! Expressions without operands before what goes on behind them: literals, paths, macros and jumps.
+//! Expressions without operands: literals, paths, macros and jumps.
 
 use crate::Expr;
 use std::alloc::AllocError;

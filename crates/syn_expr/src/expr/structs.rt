@@ -27,7 +27,7 @@ pub struct ExprStruct {
     pub rest: Option<Box<Expr>>,
 }
 
-/// A field of a struct literal, with its value. A name alone stands for the variable of that name: `expr` is its path. Without a colon the
+/// A field of a struct literal, with its value. A name alone represents the variable of that name: `expr` is its path. Without a colon the
 /// member is printed alone, whatever `expr` is.
 #[cycle(expressions)]
 #[derive(Drop)]

@@ -11,7 +11,7 @@ ghost use Rattle.syn_tokens.specs.Leaves.{maybe};
 ghost use Rattle.syn_lower.specs.Attributes.{none_listed};
 ghost use Rattle.syn_lower.specs.Parsing.{parse_rule, parse_form, Computes, Parses, Moved, Kept, MayBelow, MayHere, itself, IsSyntax};
 ghost use Rattle.syn_expr_parse.specs.BlockForms.{else_branch_form, for_form, label_form, labelled_as, labelled_form, loop_form, otherwise_form, unsafe_form, while_form};
-ghost use Rattle.syn_expr_parse.specs.Parts.{behind_else, block_behind_else, label_syntax};
+ghost use Rattle.syn_expr_parse.specs.Parts.{after_else, block_after_else, label_syntax};
 ghost use Rattle.syn_lower.specs.Bodies.{attributes_before_body, attributes_in_body, body as body_syntax};
 
 use crate::parsing::nested::{Block, Expr, Nested, Rung, Spot};
@@ -65,7 +65,7 @@ pub(super) fn body<N: Nested>(
     Ok((attrs, N::Trees::block(brace_token, stmts)))
 }
 
-/// Statements in braces, where inner attributes can't stand.
+/// Statements in braces, without inner attributes.
 #[tactic(auto, using(syn_grammar::proofs::Each::plain_body_is, crate::proofs::Blocks::none_inside), unfolding(syn_grammar::specs::Take::is_end))]
 fn plain_body<N: Nested>(nested: &N, input: &mut ParseBuffer<'_>) -> Parsed<Block<N>>
     requires { MayBelow N.may nested.now input.old }
@@ -79,7 +79,7 @@ fn plain_body<N: Nested>(nested: &N, input: &mut ParseBuffer<'_>) -> Parsed<Bloc
     Ok(N::Trees::block(brace_token, stmts))
 }
 
-/// Refused where an inner attribute stands next.
+/// Refused where an inner attribute is next.
 #[tactic(auto, using(syn_grammar::proofs::Each::no_inner_attributes_is))]
 fn no_inner_attributes(input: &ParseBuffer<'_>) -> Parsed<()>
     ensures { Computes IsSyntax (λ _. none_listed) (parse_rule rules.no_inner_attributes input.now) result input.now }
@@ -90,13 +90,13 @@ fn no_inner_attributes(input: &ParseBuffer<'_>) -> Parsed<()>
     Ok(())
 }
 
-/// A block as an expression, behind `else` or as a constant.
+/// A block as an expression, after `else` or as a constant.
 #[tactic(auto, using(crate::proofs::Blocks::none_before))]
 pub(super) fn else_block<N: Nested>(nested: &N, input: &mut ParseBuffer<'_>) -> Parsed<Box<Expr<N>>>
     requires { MayBelow N.may nested.now input.old }
-    ensures reads { Computes IsSyntax (λ e. block_behind_else (N.Trees.expr_syntax e.value)) (parse_form table.else_block input.old) result input.new }
-    ensures block { IfOk result (λ e. behind_else (N.Trees.expr_syntax e.value) ≡ Left (block_behind_else (N.Trees.expr_syntax e.value))) }
-    ensures bare { IfOk result (λ e. block_behind_else (N.Trees.expr_syntax e.value) ≡ N.Trees.expr_syntax e.value) }
+    ensures reads { Computes IsSyntax (λ e. block_after_else (N.Trees.expr_syntax e.value)) (parse_form table.else_block input.old) result input.new }
+    ensures block { IfOk result (λ e. after_else (N.Trees.expr_syntax e.value) ≡ Left (block_after_else (N.Trees.expr_syntax e.value))) }
+    ensures bare { IfOk result (λ e. block_after_else (N.Trees.expr_syntax e.value) ≡ N.Trees.expr_syntax e.value) }
     ensures moved { Moved input.old result input.new }
 {
     if input.peek::<Lifetime>() {
@@ -160,7 +160,7 @@ fn labelled_expression<N: Nested>(nested: &N, input: &mut ParseBuffer<'_>) -> Pa
     N::Trees::expr_block(attrs, label, block, input.alloc())
 }
 
-/// A loop, behind its label or behind none.
+/// A loop, after its label or after none.
 fn loop_expression<N: Nested>(
     label: Option<(Lifetime, Colon)>,
     nested: &N,
@@ -259,7 +259,7 @@ fn otherwise<N: Nested>(
     input: &mut ParseBuffer<'_>,
 ) -> Parsed<Option<(Else, Box<Expr<N>>)>>
     requires { MayBelow N.may nested.now input.old }
-    ensures reads { Computes IsSyntax (λ o. maybe (λ p. Both (else_syntax p.0) (behind_else (N.Trees.expr_syntax p.1.value))) o) (parse_form otherwise_form input.old) result input.new }
+    ensures reads { Computes IsSyntax (λ o. maybe (λ p. Both (else_syntax p.0) (after_else (N.Trees.expr_syntax p.1.value))) o) (parse_form otherwise_form input.old) result input.new }
     ensures kept { Kept input.old result input.new }
 {
     if !input.peek::<Else>() {
@@ -270,11 +270,11 @@ fn otherwise<N: Nested>(
     Ok(Some((else_token, branch)))
 }
 
-/// A block or another `if`, behind `else`.
-#[tactic(auto, using(crate::proofs::Blocks::if_behind_else))]
+/// A block or another `if`, after `else`.
+#[tactic(auto, using(crate::proofs::Blocks::if_after_else))]
 fn else_branch<N: Nested>(nested: &N, input: &mut ParseBuffer<'_>) -> Parsed<Box<Expr<N>>>
     requires { MayHere N.may nested.now input.old }
-    ensures reads { Computes IsSyntax (λ e. behind_else (N.Trees.expr_syntax e.value)) (parse_form else_branch_form input.old) result input.new }
+    ensures reads { Computes IsSyntax (λ e. after_else (N.Trees.expr_syntax e.value)) (parse_form else_branch_form input.old) result input.new }
     ensures moved { Moved input.old result input.new }
 {
     if input.peek::<Brace>() {

@@ -16,7 +16,7 @@ use syn_tokens::span::Span;
 /// How much a link takes in a trial build, in KiB. Copies of trees have the largest frames there: a copy takes up to 39 a link.
 const IN_TRIALS: u32 = 4 * LINK;
 
-/// Refuses memory where more links of chains stand above each other in what is left than the stack has room for, unless they were counted
+/// Refuses a stream in which more links of chains are nested than the stack has room for, unless they were counted
 /// before.
 pub fn refuse_long_chains(input: &mut ParseBuffer<'_>) -> Parsed<()>
     ensures memory { OrMemory IsSyntax result (λ _. Unit {0}) }
@@ -62,7 +62,7 @@ fn count_links(input: &ParseBuffer<'_>) -> Parsed<()>
     Err(Refusal::Memory(None))
 }
 
-/// Refuses memory at this place where more links than so many stand above each other there.
+/// Refuses a stream at this place in which more links than that are nested.
 fn refuse_more(most: u32, level: &Level<'_>, span: Span) -> Parsed<()>
     ensures { OrMemory IsSyntax result (λ _. Unit {0}) }
 {

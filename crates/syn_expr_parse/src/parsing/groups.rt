@@ -168,7 +168,7 @@ fn array_content<N: Nested>(
     Ok(ArrayContent::Copies(first, semi_token, len))
 }
 
-/// This element of an array, and behind a comma the others.
+/// This element of an array, and after a comma the others.
 fn elements<N: Nested>(
     nested: &N,
     first: Box<Expr<N>>,

@@ -14,7 +14,7 @@ use syn_parse::read::refusal::Parsed;
 /// How many KiB of stack are left, and what carries a refusal.
 pub type Inside<E> = (u32, PhantomData<E>);
 
-/// The functions that read nested expressions and statements as the trees `T`, and what they are told.
+/// The functions that parse nested expressions and statements as the trees `T`, and the stack that is left for them.
 #[derive(Drop)]
 pub struct Knot<T, E, X, S> {
     pub expr: X,

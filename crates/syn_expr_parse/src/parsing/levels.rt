@@ -37,10 +37,10 @@ trait Level {
     /// The operators.
     ghost operators: { List Operator };
 
-    /// The rule of what stands behind an operand.
+    /// The rule of what follows an operand.
     ghost chain_rule: { Rule };
 
-    /// The rule of the level: an operand and what stands behind it.
+    /// The rule of the level: an operand and what follows it.
     ghost level_rule: { Rule };
 
     /// Reads an operand.
@@ -52,18 +52,18 @@ trait Level {
         requires { MayBelow N.may nested.now input.old }
         ensures parses { Parses IsSyntax (λ e. Node (N.Trees.expr_syntax e.value)) (within spot operand_rule) input.old result input.new };
 
-    /// Reads an operator, where one stands next.
+    /// Reads an operator, where one is next.
     fn operator(input: &mut ParseBuffer<'_>) -> Parsed<Option<BinOp>>
         ensures operator { ReadsOperator IsSyntax syntax_of_BinOp operators input.old result input.new };
 
-    /// What stands behind the expression `a`, by the operator that stands next.
+    /// What follows the expression `a`, by the operator that is next.
     ghost step: { Steps operators operand_rule chain_rule };
 
     /// The level, by its first operand.
     ghost level: { IsLevel operand_rule chain_rule level_rule };
 }
 
-/// What stands behind an operand on a level: as long as an operator stands next, all before it is its left operand.
+/// What follows an operand on a level: while an operator is next, all before it is its left operand.
 fn chain<L: Level, N: Nested>(
     spot: Spot,
     nested: &N,
@@ -82,7 +82,7 @@ fn chain<L: Level, N: Nested>(
     Ok(all)
 }
 
-/// A level: an operand, and what stands behind it.
+/// A level: an operand, and what follows it.
 fn read_level<L: Level, N: Nested>(
     spot: Spot,
     nested: &N,
@@ -95,7 +95,7 @@ fn read_level<L: Level, N: Nested>(
     chain::<L, N>(spot, nested, first, input)
 }
 
-/// Any expression: a disjunction, and what is assigned to it. Refused where a postfix or a comparison stands behind it.
+/// Any expression: a disjunction, and what is assigned to it. Refused where a postfix or a comparison follows it.
 #[tactic(auto, using(crate::proofs::Levels::whole_are))]
 pub(super) fn whole_expression<N: Nested>(
     spot: Spot,
@@ -113,7 +113,7 @@ pub(super) fn whole_expression<N: Nested>(
     Ok(all)
 }
 
-/// What stands behind the first operand of an expression that was read without its level: postfixes, casts and operators of each
+/// What follows the first operand of an expression that was read without its level: postfixes, casts and operators of each
 /// level.
 #[tactic(auto, using(crate::proofs::Levels::rest_are))]
 pub(super) fn operand_rest<N: Nested>(

@@ -1,4 +1,4 @@
-//! Parsers of struct literals, behind their path.
+//! Parsers of struct literals, after their path.
 ghost use Rattle.std.specs.Prelude.{◌≡◌};
 ghost use Rattle.syn_grammar.specs.Rules as rules;
 ghost use Rattle.syn_grammar.specs.Grammar.{Both, Left, Node, Right};
@@ -29,7 +29,7 @@ type Literal<N> = (
     Option<Box<Expr<N>>>,
 );
 
-/// A struct literal behind its path: its braces.
+/// A struct literal after its path: its braces.
 #[tactic(auto, unfolding(syn_grammar::specs::Take::is_end))]
 pub(super) fn struct_literal<N: Nested>(
     qself: Option<QSelf>,
@@ -90,7 +90,7 @@ fn base<N: Nested>(nested: &N, input: &mut ParseBuffer<'_>) -> Parsed<(DotDot, B
     Ok((dots, rest))
 }
 
-/// A field: attributes; and its number or its name, with a value or, behind a name, without one.
+/// A field: attributes; and its number or its name, with a value or, after a name, without one.
 #[tactic(auto, using(syn_grammar::proofs::Each::literal_field_is))]
 fn field<N: Nested>(nested: &N, input: &mut ParseBuffer<'_>) -> Parsed<FieldValue<N>>
     requires { MayHere N.may nested.now input.old }
@@ -105,7 +105,7 @@ fn field<N: Nested>(nested: &N, input: &mut ParseBuffer<'_>) -> Parsed<FieldValu
     }
 }
 
-/// A field by its number, behind its attributes.
+/// A field by its number, after its attributes.
 fn numbered<N: Nested>(
     attrs: Vec<Attribute>,
     nested: &N,
@@ -121,7 +121,7 @@ fn numbered<N: Nested>(
     Ok(N::Trees::field_value(attrs, Member::Unnamed(index), colon_token, value))
 }
 
-/// A field by its name, behind its attributes.
+/// A field by its name, after its attributes.
 fn named<N: Nested>(
     attrs: Vec<Attribute>,
     nested: &N,

@@ -10,7 +10,7 @@ use crate::trees::Trees;
 use syn_parse::buffer::ParseBuffer;
 use syn_parse::read::refusal::Parsed;
 
-/// Where an expression stands: whether a path may take braces.
+/// The place of an expression: whether a path may take braces.
 #[derive(Clone, Copy)]
 pub enum Spot {
     /// Anywhere, but where only the other is meant.
@@ -24,9 +24,9 @@ pub enum Spot {
 pub enum Rung {
     /// Any.
     Whole(Spot),
-    /// A unary level: behind a sign.
+    /// A unary level: after a sign.
     Unary(Spot),
-    /// `if`, behind `else`.
+    /// `if`, after `else`.
     If,
 }
 

@@ -1,4 +1,4 @@
-//! Parsers of what goes on an expression: calls, indices, `?` and members.
+//! Parsers of what continues an expression: calls, indices, `?` and members.
 ghost use Rattle.std.specs.Prelude.{◌≡◌, true};
 ghost use Rattle.syn_grammar.specs.Rules as rules;
 ghost use Rattle.syn_grammar.specs.Table as table;
@@ -11,7 +11,7 @@ ghost use Rattle.syn_grammar.specs.Run.{wrap};
 ghost use Rattle.syn_tokens.specs.Kinds.{dot_syntax};
 ghost use Rattle.syn_tokens.specs.Leaves.{syntax_of_ident};
 ghost use Rattle.syn_lower.specs.Parsing.{sees, parse_rule, parse_form, Computes, Moved, Kept, MayBelow, MayHere, IsSyntax};
-ghost use Rattle.syn_expr_parse.specs.Postfixes.{arguments_form, behind_dot, behind_name, generic_call_form, index_form, linked, member_form, named_form};
+ghost use Rattle.syn_expr_parse.specs.Postfixes.{arguments_form, after_dot, after_name, generic_call_form, index_form, linked, member_form, named_form};
 
 use crate::parsing::groups::arguments;
 use crate::parsing::nested::{Expr, Nested, Rung, Spot};
@@ -24,7 +24,7 @@ use syn_tokens::ident::Ident;
 use syn_tokens::literal::Literal;
 use syn_tokens::token::{Bracket, Dot, Paren, PathSep, Question, kind};
 
-/// What goes on an expression, any number of times: the arguments of a call, an index, `?`, or `.` and a member.
+/// What continues an expression, any number of times: the arguments of a call, an index, `?`, or `.` and a member.
 #[tactic(auto, using(crate::proofs::Postfixes::postfixes_step))]
 pub(super) fn postfixes<N: Nested>(
     nested: &N,
@@ -118,7 +118,7 @@ fn named_member<N: Nested>(
     input: &mut ParseBuffer<'_>,
 ) -> Parsed<Box<Expr<N>>>
     requires { MayHere N.may nested.now input.old }
-    ensures reads { Computes IsSyntax (λ e. N.Trees.expr_syntax e.value) (behind_dot (N.Trees.expr_syntax base.value) (dot_syntax dot_token) (wrap Right (parse_form named_form input.old))) result input.new }
+    ensures reads { Computes IsSyntax (λ e. N.Trees.expr_syntax e.value) (after_dot (N.Trees.expr_syntax base.value) (dot_syntax dot_token) (wrap Right (parse_form named_form input.old))) result input.new }
     ensures moved { Moved input.old result input.new }
 {
     let name: Ident = input.read()?;
@@ -142,7 +142,7 @@ fn generic_call<N: Nested>(
 ) -> Parsed<Box<Expr<N>>>
     requires may { MayBelow N.may nested.now input.old }
     requires colons { sees table.at_colons input.old ≡ true }
-    ensures reads { Computes IsSyntax (λ e. N.Trees.expr_syntax e.value) (behind_name (N.Trees.expr_syntax receiver.value) (dot_syntax dot_token) (syntax_of_ident method) (wrap Left (parse_form generic_call_form input.old))) result input.new }
+    ensures reads { Computes IsSyntax (λ e. N.Trees.expr_syntax e.value) (after_name (N.Trees.expr_syntax receiver.value) (dot_syntax dot_token) (syntax_of_ident method) (wrap Left (parse_form generic_call_form input.old))) result input.new }
     ensures moved { Moved input.old result input.new }
 {
     let turbofish = Some(input.read()?);
@@ -167,7 +167,7 @@ fn method_call<N: Nested>(
     input: &mut ParseBuffer<'_>,
 ) -> Parsed<Box<Expr<N>>>
     requires { MayBelow N.may nested.now input.old }
-    ensures reads { Computes IsSyntax (λ e. N.Trees.expr_syntax e.value) (behind_name (N.Trees.expr_syntax receiver.value) (dot_syntax dot_token) (syntax_of_ident method) (wrap Right (wrap Left (parse_form arguments_form input.old)))) result input.new }
+    ensures reads { Computes IsSyntax (λ e. N.Trees.expr_syntax e.value) (after_name (N.Trees.expr_syntax receiver.value) (dot_syntax dot_token) (syntax_of_ident method) (wrap Right (wrap Left (parse_form arguments_form input.old)))) result input.new }
     ensures moved { Moved input.old result input.new }
 {
     let (paren_token, args) = arguments(nested, input)?;

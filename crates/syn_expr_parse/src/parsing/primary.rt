@@ -1,4 +1,4 @@
-//! Parsers of primary expressions: those without attributes, signs before them and what goes on them.
+//! Parsers of primary expressions: those without attributes, signs before them and what continues them.
 ghost use Rattle.syn_grammar.specs.Grammar.{Node};
 ghost use Rattle.syn_grammar.specs.Rules as rules;
 ghost use Rattle.syn_grammar.specs.Shape.{Break, Continue, Macro, Path, Return};
@@ -126,7 +126,7 @@ fn return_value<N: Nested>(
     N::Trees::expr_return(return_token, Some(value), input.alloc())
 }
 
-/// `break`, perhaps with a lifetime. No expression may begin behind it.
+/// `break`, perhaps followed by a lifetime. No expression may begin.
 fn break_loop<N: Nested>(input: &mut ParseBuffer<'_>) -> Parsed<Box<Expr<N>>>
     ensures reads { Computes IsSyntax (λ e. N.Trees.expr_syntax e.value) (wrap (new Break) (parse_form break_form input.old)) result input.new }
     ensures moved { Moved input.old result input.new }
@@ -149,7 +149,7 @@ fn continue_loop<N: Nested>(input: &mut ParseBuffer<'_>) -> Parsed<Box<Expr<N>>>
     N::Trees::expr_continue(continue_token, label, input.alloc())
 }
 
-/// A path, and the braces of a struct literal behind it, where they may stand.
+/// A path, and the braces of a struct literal after it, where they are allowed.
 fn path<N: Nested>(spot: Spot, nested: &N, input: &mut ParseBuffer<'_>) -> Parsed<Box<Expr<N>>>
     requires { MayBelow N.may nested.now input.old }
     ensures reads { Computes IsSyntax (λ e. N.Trees.expr_syntax e.value) (path_out spot input.old) result input.new }
@@ -170,7 +170,7 @@ fn lone_path<N: Nested>(input: &mut ParseBuffer<'_>) -> Parsed<Box<Expr<N>>>
     N::Trees::expr_path(qself, path, input.alloc())
 }
 
-/// A path, with the braces of a struct literal behind it or without them.
+/// A path, followed by the braces of a struct literal or without them.
 fn path_or_literal<N: Nested>(nested: &N, input: &mut ParseBuffer<'_>) -> Parsed<Box<Expr<N>>>
     requires { MayBelow N.may nested.now input.old }
     ensures reads { Computes IsSyntax (λ e. N.Trees.expr_syntax e.value) (then_by (parse_rule rules.path_as_expression input.old) behind_path) result input.new }

@@ -11,7 +11,7 @@ ghost use Rattle.syn_tokens.specs.Kinds.{else_syntax, eq_syntax, semi_syntax};
 ghost use Rattle.syn_tokens.specs.Leaves.{maybe};
 ghost use Rattle.syn_lower.specs.Attributes.{all_attributes_syntax, attributes_syntax};
 ghost use Rattle.syn_lower.specs.Parsing.{of, rule, meaning_of_rule, parse_rule, parse_form, Computes, Parses, MayParse, Moved, Kept, MayBelow, MayHere, itself, IsSyntax};
-ghost use Rattle.syn_expr_parse.specs.Parts.{block_behind_else, diverging as diverging_syntax, statements_of};
+ghost use Rattle.syn_expr_parse.specs.Parts.{block_after_else, diverging as diverging_syntax, statements_of};
 ghost use Rattle.syn_expr_parse.specs.Listed.{is_listed};
 ghost use Rattle.syn_expr_parse.specs.Spines.{spine_shown};
 ghost use Rattle.syn_expr_parse.specs.StatementForms.{behind_attributes, behind_block, crate_item, crate_macro_statement as crate_macro_statement_by, diverges, ending, expression_statement as expression_statement_by, item_next, item_statement, local_init_form, local_value as local_value_by, macro_statement as macro_statement_by, next_statement, statement_by, terminator as terminator_by};
@@ -32,12 +32,12 @@ use syn_recognize::item_looks::at_item;
 use syn_recognize::looks::{at_brace_macro, at_crate_macro};
 use syn_tokens::token::{Else, Eq, Let, Semi};
 
-/// Where a statement stands: what may end it.
+/// The place of a statement: what may end it.
 #[derive(Clone, Copy)]
 pub(crate) enum Place {
     /// Alone: a statement that is an expression ends with `;`.
     Alone,
-    /// In a list: the last one may stand without it.
+    /// In a list: the last one needs no `;`.
     Listed,
 }
 
@@ -79,7 +79,7 @@ pub fn statement<N: Nested>(nested: &N, input: &mut ParseBuffer<'_>) -> Parsed<S
     statement_in(Place::Alone, nested, input)
 }
 
-/// A statement with its attributes. Behind them it is seen whether it is an item, which is read with them.
+/// A statement with its attributes. After them it is seen whether it is an item, which is read with them.
 #[tactic(auto, unfolding(crate::specs::StatementForms::statement_by))]
 fn statement_in<N: Nested>(place: Place, nested: &N, input: &mut ParseBuffer<'_>) -> Parsed<Stmt<N>>
     requires { MayHere N.may nested.now input.old }
@@ -92,10 +92,10 @@ fn statement_in<N: Nested>(place: Place, nested: &N, input: &mut ParseBuffer<'_>
         input.advance_to(&start);
         return item::<N>(input);
     }
-    statement_behind(place, attrs, nested, input)
+    statement_after(place, attrs, nested, input)
 }
 
-/// Whether an item stands next, behind its attributes. Refused only where memory is.
+/// Whether an item is next, after its attributes. Refused only where memory is.
 fn at_item_statement(place: Place, input: &ParseBuffer<'_>) -> Parsed<bool>
     ensures { OrMemory IsSyntax result (λ b. b ≡ item_next (is_listed place) input.now) }
 {
@@ -108,7 +108,7 @@ fn at_item_statement(place: Place, input: &ParseBuffer<'_>) -> Parsed<bool>
     }
 }
 
-/// Whether a macro of `crate` in braces stands next, and behind it what goes on an expression: alone, it is an item. Refused only where
+/// Whether a macro of `crate` in braces is next, and after it what continues an expression: alone, it is an item. Refused only where
 /// memory is.
 fn at_crate_item(input: &ParseBuffer<'_>) -> Parsed<bool>
     ensures { OrMemory IsSyntax result (λ b. b ≡ crate_item false input.now) }
@@ -124,7 +124,7 @@ fn at_crate_item(input: &ParseBuffer<'_>) -> Parsed<bool>
     }
 }
 
-/// An item, kept as its tokens.
+/// An item, kept verbatim.
 fn item<N: Nested>(input: &mut ParseBuffer<'_>) -> Parsed<Stmt<N>>
     ensures reads { Computes IsSyntax N.Trees.stmt_syntax (item_statement input.old) result input.new }
     ensures moved { Moved input.old result input.new }
@@ -132,8 +132,8 @@ fn item<N: Nested>(input: &mut ParseBuffer<'_>) -> Parsed<Stmt<N>>
     Ok(N::Trees::item(input.read()?))
 }
 
-/// A statement that is no item, behind its attributes.
-fn statement_behind<N: Nested>(
+/// A statement that is no item, after its attributes.
+fn statement_after<N: Nested>(
     place: Place,
     attrs: Vec<Attribute>,
     nested: &N,
@@ -155,7 +155,7 @@ fn statement_behind<N: Nested>(
     }
 }
 
-/// A macro in braces, behind its attributes, as an expression without any.
+/// A macro in braces, after its attributes, as an expression without any.
 #[tactic(auto, using(crate::proofs::Blocks::none_shown))]
 fn macro_expression<N: Nested>(input: &mut ParseBuffer<'_>) -> Parsed<Box<Expr<N>>>
     ensures reads { Computes IsSyntax (λ e. N.Trees.expr_syntax e.value) (wrap (new Macro) (parse_rule rules.macro_invocation input.old)) result input.new }
@@ -166,7 +166,7 @@ fn macro_expression<N: Nested>(input: &mut ParseBuffer<'_>) -> Parsed<Box<Expr<N
     N::Trees::expr_macro(mac, input.alloc())
 }
 
-/// A macro in braces whose path is `crate`: no expression begins with it, so nothing goes on it.
+/// A macro in braces whose path is `crate`: no expression begins with it, so nothing continues it.
 fn crate_macro_statement<N: Nested>(
     place: Place,
     attrs: Vec<Attribute>,
@@ -222,7 +222,7 @@ fn expression_statement<N: Nested>(
     }
 }
 
-/// What follows a block or a macro in braces (`braces`): `;`, what goes on it, or nothing.
+/// What follows a block or a macro in braces (`braces`): `;`, what continues it, or nothing.
 fn statement_of_block<N: Nested>(
     place: Place,
     braces: bool,
@@ -332,7 +332,7 @@ fn local_init<N: Nested>(nested: &N, input: &mut ParseBuffer<'_>) -> Parsed<Opti
     Ok(Some(local_value(eq_token, nested, input)?))
 }
 
-/// The value of a local, behind its `=`; and perhaps `else` and a block.
+/// The value of a local, after its `=`; and perhaps `else` and a block.
 #[tactic(auto, unfolding(crate::specs::StatementForms::local_value))]
 fn local_value<N: Nested>(
     eq_token: Eq,
@@ -349,14 +349,14 @@ fn local_value<N: Nested>(
     Ok(N::Trees::local_init(eq_token, expr, diverge))
 }
 
-/// `else` and a block, where they may stand: behind an expression, read from `start` on, that doesn't end with braces.
+/// `else` and a block, where they are allowed: after an expression, read from `start` on, that doesn't end with braces.
 fn diverging<'a, N: Nested>(
     start: &ParseBuffer<'a>,
     nested: &N,
     input: &mut ParseBuffer<'a>,
 ) -> Parsed<Option<(Else, Box<Expr<N>>)>>
     requires { MayBelow N.may nested.now input.old }
-    ensures reads { Computes IsSyntax (λ o. diverging_syntax (maybe (λ p. Both (else_syntax p.0) (block_behind_else (N.Trees.expr_syntax p.1.value))) o)) (diverges (ends_by false (before start.now input.old)) input.old) result input.new }
+    ensures reads { Computes IsSyntax (λ o. diverging_syntax (maybe (λ p. Both (else_syntax p.0) (block_after_else (N.Trees.expr_syntax p.1.value))) o)) (diverges (ends_by false (before start.now input.old)) input.old) result input.new }
     ensures kept { Kept input.old result input.new }
 {
     if !input.peek::<Else>() || has_trailing_brace(start, input)? {

@@ -27,7 +27,7 @@ use syn_parse::buffer::ParseBuffer;
 use syn_parse::read::refusal::{Parsed, Refusal};
 use syn_tokens::token::{And, Minus, Not, Star};
 
-/// A unary level: attributes, which belong to all of it; and a sign before another, or an expression with what goes on it.
+/// A unary level: attributes, which belong to all of it; and a sign before another, or an expression with what continues it.
 #[tactic(auto, using(crate::proofs::Unary::unary_are, crate::proofs::Unary::unary_shown))]
 pub(super) fn unary<N: Nested>(
     spot: Spot,
@@ -42,7 +42,7 @@ pub(super) fn unary<N: Nested>(
     N::Trees::with_attributes(attrs, expr)
 }
 
-/// A unary level without attributes: `-`, `!`, `*`, `&` or `&mut` before another, or an expression with what goes on it.
+/// A unary level without attributes: `-`, `!`, `*`, `&` or `&mut` before another, or an expression with what continues it.
 fn bare_unary<N: Nested>(
     spot: Spot,
     nested: &N,
@@ -71,7 +71,7 @@ fn bare_unary<N: Nested>(
     postfixes(nested, operand, input)
 }
 
-/// A unary level behind a sign.
+/// A unary level after a sign.
 fn signed<N: Nested>(
     spot: Spot,
     nested: &N,

@@ -1,5 +1,7 @@
-//! Traits, impls, foreign modules and what derives are made for become items; members become members of any kind. Nothing is copied, and
-//! no memory is taken.
+//! Written by tools/kinds.py; edits are lost.
+//!
+//! Conversions of items with members, structs, enums and unions into `Item`, and of members into the enums that hold them. Nothing is
+//! copied or allocated.
 ghost use Rattle.std.specs.Prelude.{◌≡◌};
 
 use crate::foreign::{

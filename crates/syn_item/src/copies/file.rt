@@ -9,6 +9,6 @@ use syn_tokens::syntactic::try_clone::TryClone;
 
 impl TryClone for Frontmatter {
     fn try_clone(&self, _alloc: Global) -> Result<Frontmatter> {
-        Ok(Frontmatter {})
+        Ok(*self)
     }
 }

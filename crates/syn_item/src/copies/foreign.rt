@@ -40,7 +40,7 @@ impl TryClone for ForeignItemFn {
         Ok(ForeignItemFn {
             attrs: self.attrs.try_clone(alloc)?,
             vis: self.vis.try_clone(alloc)?,
-            modifiers: self.modifiers.try_clone(alloc)?,
+            modifiers: self.modifiers,
             sig: self.sig.try_clone(alloc)?,
             semi_token: self.semi_token,
         })
@@ -52,9 +52,9 @@ impl TryClone for ForeignItemStatic {
         Ok(ForeignItemStatic {
             attrs: self.attrs.try_clone(alloc)?,
             vis: self.vis.try_clone(alloc)?,
-            safety: self.safety.try_clone(alloc)?,
+            safety: self.safety,
             static_token: self.static_token,
-            mutability: self.mutability.try_clone(alloc)?,
+            mutability: self.mutability,
             ident: self.ident.try_clone(alloc)?,
             colon_token: self.colon_token,
             ty: self.ty.try_clone(alloc)?,
@@ -68,8 +68,8 @@ impl TryClone for ForeignItemType {
         Ok(ForeignItemType {
             attrs: self.attrs.try_clone(alloc)?,
             vis: self.vis.try_clone(alloc)?,
-            modifiers: self.modifiers.try_clone(alloc)?,
-            type_token: self.type_token.try_clone(alloc)?,
+            modifiers: self.modifiers,
+            type_token: self.type_token,
             ident: self.ident.try_clone(alloc)?,
             generics: self.generics.try_clone(alloc)?,
             semi_token: self.semi_token,

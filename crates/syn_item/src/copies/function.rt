@@ -12,7 +12,7 @@ impl TryClone for ItemFn {
         Ok(ItemFn {
             attrs: self.attrs.try_clone(alloc)?,
             vis: self.vis.try_clone(alloc)?,
-            modifiers: self.modifiers.try_clone(alloc)?,
+            modifiers: self.modifiers,
             sig: self.sig.try_clone(alloc)?,
             block: self.block.try_clone(alloc)?,
         })

@@ -12,7 +12,7 @@ impl TryClone for ItemImpl {
     fn try_clone(&self, alloc: Global) -> Result<ItemImpl> {
         Ok(ItemImpl {
             attrs: self.attrs.try_clone(alloc)?,
-            modifiers: self.modifiers.try_clone(alloc)?,
+            modifiers: self.modifiers,
             unsafety: self.unsafety,
             impl_token: self.impl_token,
             generics: self.generics.try_clone(alloc)?,
@@ -41,7 +41,7 @@ impl TryClone for ImplItemConst {
         Ok(ImplItemConst {
             attrs: self.attrs.try_clone(alloc)?,
             vis: self.vis.try_clone(alloc)?,
-            modifiers: self.modifiers.try_clone(alloc)?,
+            modifiers: self.modifiers,
             const_token: self.const_token,
             ident: self.ident.try_clone(alloc)?,
             generics: self.generics.try_clone(alloc)?,
@@ -59,7 +59,7 @@ impl TryClone for ImplItemFn {
         Ok(ImplItemFn {
             attrs: self.attrs.try_clone(alloc)?,
             vis: self.vis.try_clone(alloc)?,
-            modifiers: self.modifiers.try_clone(alloc)?,
+            modifiers: self.modifiers,
             sig: self.sig.try_clone(alloc)?,
             block: self.block.try_clone(alloc)?,
         })
@@ -71,8 +71,8 @@ impl TryClone for ImplItemType {
         Ok(ImplItemType {
             attrs: self.attrs.try_clone(alloc)?,
             vis: self.vis.try_clone(alloc)?,
-            modifiers: self.modifiers.try_clone(alloc)?,
-            type_token: self.type_token.try_clone(alloc)?,
+            modifiers: self.modifiers,
+            type_token: self.type_token,
             ident: self.ident.try_clone(alloc)?,
             generics: self.generics.try_clone(alloc)?,
             eq_token: self.eq_token,

@@ -12,9 +12,9 @@ impl TryClone for Signature {
         Ok(Signature {
             constness: self.constness,
             asyncness: self.asyncness,
-            safety: self.safety.try_clone(alloc)?,
+            safety: self.safety,
             abi: self.abi.try_clone(alloc)?,
-            fn_token: self.fn_token.try_clone(alloc)?,
+            fn_token: self.fn_token,
             ident: self.ident.try_clone(alloc)?,
             generics: self.generics.try_clone(alloc)?,
             paren_token: self.paren_token,
@@ -27,11 +27,7 @@ impl TryClone for Signature {
 
 impl TryClone for Safety {
     fn try_clone(&self, _alloc: Global) -> Result<Safety> {
-        match self {
-            Safety::Safe(value) => Ok(Safety::Safe(*value)),
-            Safety::Unsafe(value) => Ok(Safety::Unsafe(*value)),
-            Safety::Default => Ok(Safety::Default),
-        }
+        Ok(*self)
     }
 }
 

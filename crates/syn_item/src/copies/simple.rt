@@ -15,7 +15,7 @@ impl TryClone for ItemConst {
         Ok(ItemConst {
             attrs: self.attrs.try_clone(alloc)?,
             vis: self.vis.try_clone(alloc)?,
-            modifiers: self.modifiers.try_clone(alloc)?,
+            modifiers: self.modifiers,
             const_token: self.const_token,
             ident: self.ident.try_clone(alloc)?,
             generics: self.generics.try_clone(alloc)?,
@@ -34,7 +34,7 @@ impl TryClone for ItemStatic {
             attrs: self.attrs.try_clone(alloc)?,
             vis: self.vis.try_clone(alloc)?,
             static_token: self.static_token,
-            mutability: self.mutability.try_clone(alloc)?,
+            mutability: self.mutability,
             ident: self.ident.try_clone(alloc)?,
             colon_token: self.colon_token,
             ty: self.ty.try_clone(alloc)?,
@@ -47,10 +47,7 @@ impl TryClone for ItemStatic {
 
 impl TryClone for StaticMutability {
     fn try_clone(&self, _alloc: Global) -> Result<StaticMutability> {
-        match self {
-            StaticMutability::Mut(value) => Ok(StaticMutability::Mut(*value)),
-            StaticMutability::None => Ok(StaticMutability::None),
-        }
+        Ok(*self)
     }
 }
 
@@ -59,24 +56,21 @@ impl TryClone for ItemType {
         Ok(ItemType {
             attrs: self.attrs.try_clone(alloc)?,
             vis: self.vis.try_clone(alloc)?,
-            modifiers: self.modifiers.try_clone(alloc)?,
-            type_token: self.type_token.try_clone(alloc)?,
+            modifiers: self.modifiers,
+            type_token: self.type_token,
             ident: self.ident.try_clone(alloc)?,
             generics: self.generics.try_clone(alloc)?,
             eq_token: self.eq_token,
             ty: self.ty.try_clone(alloc)?,
             semi_token: self.semi_token,
-            where_clause_placement: self.where_clause_placement.try_clone(alloc)?,
+            where_clause_placement: self.where_clause_placement,
         })
     }
 }
 
 impl TryClone for WhereClausePlacement {
     fn try_clone(&self, _alloc: Global) -> Result<WhereClausePlacement> {
-        match self {
-            WhereClausePlacement::Early => Ok(WhereClausePlacement::Early),
-            WhereClausePlacement::Late => Ok(WhereClausePlacement::Late),
-        }
+        Ok(*self)
     }
 }
 

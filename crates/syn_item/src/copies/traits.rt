@@ -15,7 +15,7 @@ impl TryClone for ItemTrait {
         Ok(ItemTrait {
             attrs: self.attrs.try_clone(alloc)?,
             vis: self.vis.try_clone(alloc)?,
-            modifiers: self.modifiers.try_clone(alloc)?,
+            modifiers: self.modifiers,
             unsafety: self.unsafety,
             trait_token: self.trait_token,
             ident: self.ident.try_clone(alloc)?,
@@ -44,7 +44,7 @@ impl TryClone for TraitItemConst {
     fn try_clone(&self, alloc: Global) -> Result<TraitItemConst> {
         Ok(TraitItemConst {
             attrs: self.attrs.try_clone(alloc)?,
-            modifiers: self.modifiers.try_clone(alloc)?,
+            modifiers: self.modifiers,
             const_token: self.const_token,
             ident: self.ident.try_clone(alloc)?,
             generics: self.generics.try_clone(alloc)?,
@@ -60,7 +60,7 @@ impl TryClone for TraitItemFn {
     fn try_clone(&self, alloc: Global) -> Result<TraitItemFn> {
         Ok(TraitItemFn {
             attrs: self.attrs.try_clone(alloc)?,
-            modifiers: self.modifiers.try_clone(alloc)?,
+            modifiers: self.modifiers,
             sig: self.sig.try_clone(alloc)?,
             default: self.default.try_clone(alloc)?,
             semi_token: self.semi_token,
@@ -72,8 +72,8 @@ impl TryClone for TraitItemType {
     fn try_clone(&self, alloc: Global) -> Result<TraitItemType> {
         Ok(TraitItemType {
             attrs: self.attrs.try_clone(alloc)?,
-            modifiers: self.modifiers.try_clone(alloc)?,
-            type_token: self.type_token.try_clone(alloc)?,
+            modifiers: self.modifiers,
+            type_token: self.type_token,
             ident: self.ident.try_clone(alloc)?,
             generics: self.generics.try_clone(alloc)?,
             colon_token: self.colon_token,

@@ -11,7 +11,7 @@ use syn_parse::read::refusal::Parsed;
 
 /// Inner attributes and items, to the end. Neither a first line nor a frontmatter is read.
 ///
-/// It is refused at the first token that can't stand there: what begins no item begins nothing else.
+/// It is refused at the first token that can't be there: what begins no item begins nothing else.
 impl Read for File {
     ghost form = { of (rule rules.file) };
 

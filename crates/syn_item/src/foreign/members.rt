@@ -20,7 +20,7 @@ ghost use Rattle.syn_item.specs.Foreign.{syntax_of_ForeignItem};
 ghost use Rattle.syn_item.specs.ForeignForms.{bare_static_syntax, foreign_function_of};
 ghost use Rattle.syn_item.specs.NextWords.{foreign_function_next, static_next};
 ghost use Rattle.syn_item.specs.Planned.{Follows};
-ghost use Rattle.syn_item.specs.Stages.{foreign_function_or_kept, foreign_item_plan_behind, foreign_static_or_kept, foreign_type_or_kept};
+ghost use Rattle.syn_item.specs.Stages.{foreign_function_or_kept, foreign_item_plan_after, foreign_static_or_kept, foreign_type_or_kept};
 
 use super::{ForeignItem, ForeignItemFn, ForeignItemMacro, ForeignItemStatic, ForeignItemType};
 use crate::pieces::{kept_tokens, member_macro, type_head};
@@ -43,8 +43,8 @@ use syn_tokens::token::{
 use syn_tree::item::{FnModifiers, TypeModifiers};
 use syn_tree::restriction::Visibility;
 
-/// A foreign member: attributes, and then what the next words tell. A function with a body, a static with a value, and a type with bounds or
-/// with a type are kept as their tokens.
+/// A foreign member: attributes, and then the next words decide. A function with a body, a static with a value, and a type with bounds or
+/// with a type are kept verbatim.
 impl Read for ForeignItem {
     ghost form = { of (rule rules.foreign_item) };
 
@@ -54,7 +54,7 @@ impl Read for ForeignItem {
     fn read(input: &mut ParseBuffer<'_>) -> Parsed<ForeignItem> {
         let start = input.fork();
         let attrs = outer_attributes(input)?;
-        match foreign_item_behind(attrs, input) {
+        match foreign_item_after(attrs, input) {
             Ok(Some(member)) => Ok(member),
             Ok(None) => Ok(ForeignItem::Verbatim(kept_tokens(Rule::FOREIGN_ITEM, &start, input)?)),
             Err(refusal) => Err(refusal),
@@ -62,13 +62,13 @@ impl Read for ForeignItem {
     }
 }
 
-/// A foreign member, behind its attributes; `None` where it is kept as its tokens.
+/// A foreign member, after its attributes; `None` where it is kept verbatim.
 #[tactic(auto, using(crate::proofs::ForeignMembers::visibility_refused, crate::proofs::ForeignMembers::type_follows, crate::proofs::ForeignMembers::static_follows, crate::proofs::ForeignMembers::function_follows, crate::proofs::ForeignMembers::marked_refused, crate::proofs::ForeignMembers::self_refused, crate::proofs::ForeignMembers::macro_read, crate::proofs::ForeignMembers::macro_refused))]
-fn foreign_item_behind(
+fn foreign_item_after(
     attrs: Vec<Attribute>,
     input: &mut ParseBuffer<'_>,
 ) -> Parsed<Option<ForeignItem>>
-    ensures follows { (ts : Stream) → Follows IsSyntax syntax_of_ForeignItem rules.kept_foreign_item ts (run_plan (foreign_item_plan_behind (attributes_syntax attrs.items)) rules.kept_foreign_item ts input.old) result input.new }
+    ensures follows { (ts : Stream) → Follows IsSyntax syntax_of_ForeignItem rules.kept_foreign_item ts (run_plan (foreign_item_plan_after (attributes_syntax attrs.items)) rules.kept_foreign_item ts input.old) result input.new }
 {
     let is_marked = at_visibility(input);
     let vis = input.read()?;
@@ -90,14 +90,14 @@ fn foreign_item_behind(
     Ok(Some(ForeignItem::Macro(foreign_macro(attrs, input)?)))
 }
 
-/// Whether a visibility stands next, written or not.
+/// Whether a visibility is next, written or not.
 fn at_visibility(input: &ParseBuffer<'_>) -> bool
     ensures { result ≡ or (sees (at_word w_pub) input.now) (sees at_empty_group input.now) }
 {
     input.peek::<Pub>() || at_empty_group(input)
 }
 
-/// Whether `static` stands next, or behind `safe` or `unsafe`.
+/// Whether `static` is next, or after `safe` or `unsafe`.
 fn at_static(input: &ParseBuffer<'_>) -> bool
     ensures { result ≡ static_next input.now }
 {
@@ -108,7 +108,7 @@ fn at_static(input: &ParseBuffer<'_>) -> bool
     }
 }
 
-/// Whether a word of a foreign signature stands next. Where no visibility stands before it (`is_marked`), `safe` may also begin a path.
+/// Whether a word of a foreign signature is next. Where no visibility is before it (`is_marked`), `safe` may also begin a path.
 fn at_foreign_function(is_marked: bool, input: &ParseBuffer<'_>) -> Parsed<bool>
     ensures { OrMemory IsSyntax result (λ answer. answer ≡ foreign_function_next is_marked input.now) }
 {
@@ -124,7 +124,7 @@ fn at_foreign_function(is_marked: bool, input: &ParseBuffer<'_>) -> Parsed<bool>
     )
 }
 
-/// A foreign function, behind its visibility; `None` where it is kept as its tokens: with a body.
+/// A foreign function, after its visibility; `None` where it is kept verbatim: with a body.
 fn foreign_function(
     attrs: Vec<Attribute>,
     vis: Visibility,
@@ -136,12 +136,12 @@ fn foreign_function(
     if !input.peek::<Semi>() {
         return Ok(None);
     }
-    let function = behind_foreign_signature(attrs, vis, sig, input)?;
+    let function = after_foreign_signature(attrs, vis, sig, input)?;
     Ok(Some(ForeignItem::Fn(function)))
 }
 
-/// A foreign function, behind its signature: its `;`.
-fn behind_foreign_signature(
+/// A foreign function, after its signature: its `;`.
+fn after_foreign_signature(
     attrs: Vec<Attribute>,
     vis: Visibility,
     sig: Signature,
@@ -160,7 +160,7 @@ fn behind_foreign_signature(
     })
 }
 
-/// A foreign static, behind its visibility; `None` where it is kept as its tokens: with a value.
+/// A foreign static, after its visibility; `None` where it is kept verbatim: with a value.
 fn foreign_static(
     attrs: Vec<Attribute>,
     vis: Visibility,
@@ -176,7 +176,7 @@ fn foreign_static(
     Ok(Some(ForeignItem::Static(whole_static(attrs, vis, bare, semi_token))))
 }
 
-/// A foreign type, behind its visibility; `None` where it is kept as its tokens: with a colon or with `=`.
+/// A foreign type, after its visibility; `None` where it is kept verbatim: with a colon or with `=`.
 fn foreign_type(
     attrs: Vec<Attribute>,
     vis: Visibility,
@@ -229,7 +229,7 @@ impl Read for ForeignItemFn {
         let attrs = outer_attributes(input)?;
         let vis = input.read()?;
         let sig = foreign_signature(input)?;
-        behind_foreign_signature(attrs, vis, sig, input)
+        after_foreign_signature(attrs, vis, sig, input)
     }
 }
 
@@ -331,7 +331,7 @@ impl Read for ForeignItemMacro {
     }
 }
 
-/// A macro in a foreign module, behind its attributes.
+/// A macro in a foreign module, after its attributes.
 fn foreign_macro(attrs: Vec<Attribute>, input: &mut ParseBuffer<'_>) -> Parsed<ForeignItemMacro>
     ensures reads { Computes IsSyntax itself (wrap (Both (attributes_syntax attrs.items)) (parse_rule rules.member_macro input.old)) result input.new }
     ensures moved { Moved input.old result input.new }

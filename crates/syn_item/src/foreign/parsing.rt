@@ -27,7 +27,7 @@ impl Read for ItemForeignMod {
     }
 }
 
-/// A foreign module, behind its attributes.
+/// A foreign module, after its attributes.
 #[tactic(auto, using(syn_grammar::proofs::Each::foreign_module_rest_is, crate::proofs::MemberLists::foreign_members))]
 pub(crate) fn foreign_module_rest(
     attrs: Vec<Attribute>,

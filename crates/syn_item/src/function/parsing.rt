@@ -21,7 +21,7 @@ use syn_tree::restriction::Visibility;
 
 /// Attributes, a visibility, a signature, and a body: inner attributes and statements in braces.
 ///
-/// Inner attributes stand behind the outer ones in `attrs`. A function without a body is refused at its `;`.
+/// Inner attributes follow the outer ones in `attrs`. A function without a body is refused at its `;`.
 impl Read for ItemFn {
     ghost form = { of (rule rules.function) };
 
@@ -34,7 +34,7 @@ impl Read for ItemFn {
     }
 }
 
-/// A function behind its attributes.
+/// A function after its attributes.
 #[tactic(auto, using(syn_grammar::proofs::Each::function_rest_is))]
 pub(crate) fn function_rest(attrs: Vec<Attribute>, input: &mut ParseBuffer<'_>) -> Parsed<ItemFn>
     requires outer { all_attributes_syntax attrs.items ≡ attributes_syntax attrs.items }
@@ -46,7 +46,7 @@ pub(crate) fn function_rest(attrs: Vec<Attribute>, input: &mut ParseBuffer<'_>) 
     function(attrs, vis, sig, input)
 }
 
-/// A function behind its signature: its body.
+/// A function after its signature: its body.
 pub(crate) fn function(
     attrs: Vec<Attribute>,
     vis: Visibility,

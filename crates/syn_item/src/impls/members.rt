@@ -17,7 +17,7 @@ ghost use Rattle.syn_item.specs.Impls.{syntax_of_ImplItem};
 ghost use Rattle.syn_item.specs.ItemForms.{value_form};
 ghost use Rattle.syn_item.specs.NextWords.{constant_next, impl_macro_next};
 ghost use Rattle.syn_item.specs.Planned.{Follows};
-ghost use Rattle.syn_item.specs.Stages.{impl_const_or_kept, impl_item_plan_behind};
+ghost use Rattle.syn_item.specs.Stages.{impl_const_or_kept, impl_item_plan_after};
 
 use super::{ImplItem, ImplItemConst, ImplItemFn, ImplItemMacro, ImplItemType};
 use crate::bodies::body;
@@ -39,7 +39,7 @@ use syn_tokens::token::{Const, Default, Eq, Lt, Pub, Semi};
 use syn_tree::item::{ConstModifiers, FnModifiers, TypeModifiers};
 use syn_tree::restriction::Visibility;
 
-/// What stands before the words of a member of an impl.
+/// What is before the words of a member of an impl.
 #[derive(Drop)]
 struct MemberMarks {
     attrs: Vec<Attribute>,
@@ -60,8 +60,8 @@ fn member_marks(input: &mut ParseBuffer<'_>) -> Parsed<MemberMarks>
     })
 }
 
-/// A member of an impl: attributes, and then what the next words tell. A function without a body, a constant with generics, with a where
-/// clause or without a value, and a type with bounds or without a type are kept as their tokens.
+/// A member of an impl: attributes, and then the next words decide. A function without a body, a constant with generics, with a where
+/// clause or without a value, and a type with bounds or without a type are kept verbatim.
 impl Read for ImplItem {
     ghost form = { of (rule rules.impl_item) };
 
@@ -71,7 +71,7 @@ impl Read for ImplItem {
     fn read(input: &mut ParseBuffer<'_>) -> Parsed<ImplItem> {
         let start = input.fork();
         let attrs = outer_attributes(input)?;
-        match impl_item_behind(attrs, input) {
+        match impl_item_after(attrs, input) {
             Ok(Some(member)) => Ok(member),
             Ok(None) => Ok(ImplItem::Verbatim(kept_tokens(Rule::IMPL_ITEM, &start, input)?)),
             Err(refusal) => Err(refusal),
@@ -79,11 +79,11 @@ impl Read for ImplItem {
     }
 }
 
-/// A member of an impl, behind its attributes; `None` where it is kept as its tokens.
+/// A member of an impl, after its attributes; `None` where it is kept verbatim.
 #[tactic(auto, using(crate::proofs::ImplPlans::member_follows, crate::proofs::ImplPlans::visibility_refused, crate::proofs::ImplPlans::default_refused, crate::proofs::ImplPlans::path_refused, crate::proofs::ImplPlans::macro_read, crate::proofs::ImplPlans::macro_refused))]
-fn impl_item_behind(attrs: Vec<Attribute>, input: &mut ParseBuffer<'_>) -> Parsed<Option<ImplItem>>
+fn impl_item_after(attrs: Vec<Attribute>, input: &mut ParseBuffer<'_>) -> Parsed<Option<ImplItem>>
     requires outer { all_attributes_syntax attrs.items ≡ attributes_syntax attrs.items }
-    ensures follows { (ts : Stream) → Follows IsSyntax syntax_of_ImplItem rules.kept_impl_item ts (run_plan (impl_item_plan_behind (attributes_syntax attrs.items)) rules.kept_impl_item ts input.old) result input.new }
+    ensures follows { (ts : Stream) → Follows IsSyntax syntax_of_ImplItem rules.kept_impl_item ts (run_plan (impl_item_plan_after (attributes_syntax attrs.items)) rules.kept_impl_item ts input.old) result input.new }
 {
     if at_impl_macro(input)? {
         if at_no_macro_item(input) {
@@ -102,7 +102,7 @@ fn impl_item_behind(attrs: Vec<Attribute>, input: &mut ParseBuffer<'_>) -> Parse
 }
 
 /// Whether a member of an impl is a macro: where it begins neither with a visibility nor with `default`, but for a macro of that name, and
-/// no word of another member stands next.
+/// no word of another member is next.
 fn at_impl_macro(input: &ParseBuffer<'_>) -> Parsed<bool>
     ensures { OrMemory IsSyntax result (λ answer. answer ≡ impl_macro_next input.now) }
 {
@@ -115,7 +115,7 @@ fn at_impl_macro(input: &ParseBuffer<'_>) -> Parsed<bool>
     Ok(!(input.peek::<token::Type>() || input.peek::<Const>() || at_function(input)))
 }
 
-/// A member of an impl that is no macro, behind its `default`; `None` where it is kept as its tokens.
+/// A member of an impl that is no macro, after its `default`; `None` where it is kept verbatim.
 #[tactic(auto, using(crate::proofs::ImplPlans::type_follows, crate::proofs::ImplPlans::const_follows, crate::proofs::ImplPlans::signature_refused))]
 fn impl_member(marks: MemberMarks, input: &mut ParseBuffer<'_>) -> Parsed<Option<ImplItem>>
     requires outer { all_attributes_syntax marks.attrs.items ≡ attributes_syntax marks.attrs.items }
@@ -135,7 +135,7 @@ fn impl_member(marks: MemberMarks, input: &mut ParseBuffer<'_>) -> Parsed<Option
     Ok(Some(ImplItem::Fn(function)))
 }
 
-/// A function of an impl, behind its signature: its body.
+/// A function of an impl, after its signature: its body.
 fn impl_function(
     marks: MemberMarks,
     sig: Signature,
@@ -157,14 +157,14 @@ fn impl_function(
     })
 }
 
-/// Whether `const` stands next, and no signature begins with it.
+/// Whether `const` is next, and no signature begins with it.
 fn at_constant(input: &ParseBuffer<'_>) -> bool
     ensures { result ≡ constant_next input.now }
 {
     input.peek::<Const>() && !at_function(input)
 }
 
-/// A type of an impl, behind its `default`; `None` where it is kept as its tokens: without `=` behind its generics.
+/// A type of an impl, after its `default`; `None` where it is kept verbatim: without `=` after its generics.
 #[tactic(auto, using(crate::proofs::ImplPlans::head_refused, crate::proofs::ImplPlans::type_kept, crate::proofs::ImplPlans::rest_read, crate::proofs::ImplPlans::rest_refused))]
 fn impl_type(marks: MemberMarks, input: &mut ParseBuffer<'_>) -> Parsed<Option<ImplItem>>
     ensures follows { (ts : Stream) → Follows IsSyntax syntax_of_ImplItem rules.kept_impl_item ts (run_plan (plan.impl_type_plan (attributes_syntax marks.attrs.items) (syntax_of_Visibility marks.vis) (maybe default_syntax marks.defaultness)) rules.kept_impl_item ts input.old) result input.new }
@@ -176,7 +176,7 @@ fn impl_type(marks: MemberMarks, input: &mut ParseBuffer<'_>) -> Parsed<Option<I
     Ok(Some(ImplItem::Ty(impl_type_rest(marks, head, input)?)))
 }
 
-/// A constant of an impl, behind its `default`; `None` where it is kept as its tokens: with generics, without a value or with a where
+/// A constant of an impl, after its `default`; `None` where it is kept verbatim: with generics, without a value or with a where
 /// clause.
 #[tactic(auto, using(crate::proofs::ImplPlans::generics_kept, crate::proofs::ImplPlans::value_kept, crate::proofs::ImplPlans::clause_kept), unfolding(syn_grammar::specs::MemberPlans::impl_const_plan))]
 fn impl_const(marks: MemberMarks, input: &mut ParseBuffer<'_>) -> Parsed<Option<ImplItem>>
@@ -236,7 +236,7 @@ impl Read for ImplItemConst {
     }
 }
 
-/// A constant of an impl, behind its name: `:`, a type, `=`, an expression and `;`.
+/// A constant of an impl, after its name: `:`, a type, `=`, an expression and `;`.
 fn impl_const_rest(
     marks: MemberMarks,
     head: (Const, Ident),
@@ -291,7 +291,7 @@ impl Read for ImplItemType {
     }
 }
 
-/// A type of an impl, behind its generics.
+/// A type of an impl, after its generics.
 fn impl_type_rest(
     marks: MemberMarks,
     head: (token::Type, Ident, Generics),
@@ -332,7 +332,7 @@ impl Read for ImplItemMacro {
     }
 }
 
-/// A macro in an impl, behind its attributes.
+/// A macro in an impl, after its attributes.
 fn impl_macro(attrs: Vec<Attribute>, input: &mut ParseBuffer<'_>) -> Parsed<ImplItemMacro>
     ensures reads { Computes IsSyntax itself (wrap (Both (attributes_syntax attrs.items)) (parse_rule rules.member_macro input.old)) result input.new }
     ensures moved { Moved input.old result input.new }

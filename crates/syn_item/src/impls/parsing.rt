@@ -14,11 +14,11 @@ ghost use Rattle.syn_lower.specs.Parsing.{of, rule, meaning_of_rule, parse_rule,
 ghost use Rattle.syn_lower.specs.Generics.{where_part};
 ghost use Rattle.syn_lower.specs.Parts.{first};
 ghost use Rattle.syn_parse.specs.Form.{by};
-ghost use Rattle.syn_item.specs.ImplForms.{ReadsBefore, bang_then, behind_impl_form, impl_generics_form, impl_of, path_then, types_before, types_then};
+ghost use Rattle.syn_item.specs.ImplForms.{ReadsBefore, bang_then, after_impl_form, impl_generics_form, impl_of, path_then, types_before, types_then};
 ghost use Rattle.syn_item.specs.Impls.{kept_list, without_self_type};
 ghost use Rattle.syn_item.specs.NextWords.{odd_negative};
 ghost use Rattle.syn_item.specs.Planned.{Follows};
-ghost use Rattle.syn_item.specs.Stages.{impl_types_behind};
+ghost use Rattle.syn_item.specs.Stages.{impl_types_after};
 
 use super::ItemImpl;
 use crate::pieces::braced;
@@ -34,7 +34,7 @@ use syn_tokens::span::Span;
 use syn_tokens::token::{Brace, Const, Default, For, Impl, Not, PathSep, Unsafe};
 use syn_tree::item::ImplModifiers;
 
-/// What stands before an impl's generics.
+/// What is before an impl's generics.
 #[derive(Drop)]
 pub(crate) struct ImplMarks {
     pub(crate) attrs: Vec<Attribute>,
@@ -52,7 +52,7 @@ pub(crate) struct ImplTypes {
     pub(crate) self_ty: Box<Type>,
 }
 
-/// Attributes, perhaps `default`, perhaps `const`, perhaps `unsafe`, `impl`, generics where they stand and no type does; `!` alone, or `!`,
+/// Attributes, perhaps `default`, perhaps `const`, perhaps `unsafe`, `impl`, generics if they are next and no type is; `!` alone, or `!`,
 /// a path, `for` and a type, or a path with `for` and a type or alone, or a type that is no plain path; a where clause, and inner
 /// attributes and members in braces.
 impl Read for ItemImpl {
@@ -67,7 +67,7 @@ impl Read for ItemImpl {
     }
 }
 
-/// An impl, behind its attributes.
+/// An impl, after its attributes.
 #[tactic(auto, using(syn_grammar::proofs::Each::impl_definition_rest_is))]
 fn impl_definition_rest(attrs: Vec<Attribute>, input: &mut ParseBuffer<'_>) -> Parsed<ItemImpl>
     requires outer { all_attributes_syntax attrs.items ≡ attributes_syntax attrs.items }
@@ -85,14 +85,14 @@ fn impl_definition_rest(attrs: Vec<Attribute>, input: &mut ParseBuffer<'_>) -> P
         unsafety,
         impl_token,
     };
-    behind_impl(marks, input)
+    after_impl(marks, input)
 }
 
-/// An impl, behind its word.
+/// An impl, after its word.
 #[tactic(auto, using(crate::proofs::FirstTypes::generics_refused, crate::proofs::FirstTypes::types_refused, crate::proofs::FirstTypes::whole_read, crate::proofs::FirstTypes::whole_refused))]
-fn behind_impl(marks: ImplMarks, input: &mut ParseBuffer<'_>) -> Parsed<ItemImpl>
+fn after_impl(marks: ImplMarks, input: &mut ParseBuffer<'_>) -> Parsed<ItemImpl>
     requires outer { all_attributes_syntax marks.attrs.items ≡ attributes_syntax marks.attrs.items }
-    ensures reads { Computes IsSyntax itself (wrap (impl_of marks) (parse_form behind_impl_form input.old)) result input.new }
+    ensures reads { Computes IsSyntax itself (wrap (impl_of marks) (parse_form after_impl_form input.old)) result input.new }
     ensures moved { Moved input.old result input.new }
 {
     let generics = impl_generics(input)?;
@@ -105,7 +105,7 @@ fn behind_impl(marks: ImplMarks, input: &mut ParseBuffer<'_>) -> Parsed<ItemImpl
     }
 }
 
-/// The refusal of an impl: where its first type is no path of a trait, and `for` stands behind it, it is told where that type begins.
+/// The refusal of an impl: if its first type is no path of a trait, and `for` follows it, it is at the beginning of that type.
 fn told(refusal: Refusal, is_odd: bool, first: Span) -> Refusal
     ensures { IsSyntax result → IsSyntax refusal }
 {
@@ -121,7 +121,7 @@ fn told(refusal: Refusal, is_odd: bool, first: Span) -> Refusal
     }
 }
 
-/// Generics, where they stand next and no type does.
+/// Generics, where they are next and no type does.
 pub(crate) fn impl_generics(input: &mut ParseBuffer<'_>) -> Parsed<Generics>
     ensures reads { Computes IsSyntax (λ g. kept_list (first g)) (parse_form impl_generics_form input.old) result input.new }
     ensures kept { Kept input.old result input.new }
@@ -158,7 +158,7 @@ fn implemented(input: &mut ParseBuffer<'_>) -> Parsed<ImplTypes>
     ensures moved { Moved input.old result input.new }
 {
     if input.peek::<Not>() {
-        return behind_bang(input);
+        return after_bang(input);
     }
     if input.peek::<ModulePath>() {
         return behind_path(input);
@@ -173,7 +173,7 @@ fn implemented(input: &mut ParseBuffer<'_>) -> Parsed<ImplTypes>
 
 /// `!`, and before braces nothing else, as a self type; else a path, `for` and a self type.
 #[tactic(auto, using(crate::proofs::FirstTypes::bang_refused, crate::proofs::FirstTypes::never_read, crate::proofs::FirstTypes::negative_path_refused, crate::proofs::FirstTypes::negative_for_refused, crate::proofs::FirstTypes::negative_type_refused, crate::proofs::FirstTypes::negative_read))]
-fn behind_bang(input: &mut ParseBuffer<'_>) -> Parsed<ImplTypes>
+fn after_bang(input: &mut ParseBuffer<'_>) -> Parsed<ImplTypes>
     ensures reads { ReadsBefore IsSyntax types_before (λ f. wrap Left (bang_then f input.old)) result input.new }
     ensures moved { Moved input.old result input.new }
 {
@@ -187,7 +187,7 @@ fn behind_bang(input: &mut ParseBuffer<'_>) -> Parsed<ImplTypes>
         });
     }
     let path = input.read()?;
-    let for_token = for_behind_bang(bang_token, input)?;
+    let for_token = for_after_bang(bang_token, input)?;
     let self_ty = input.read()?;
     Ok(ImplTypes {
         polarity: Some(bang_token),
@@ -196,8 +196,8 @@ fn behind_bang(input: &mut ParseBuffer<'_>) -> Parsed<ImplTypes>
     })
 }
 
-/// The `for` behind `!` and a path. Where none stands next, the fault stands at the `!`.
-fn for_behind_bang(bang_token: Not, input: &mut ParseBuffer<'_>) -> Parsed<For>
+/// The `for` after `!` and a path. Where none is next, the fault is at the `!`.
+fn for_after_bang(bang_token: Not, input: &mut ParseBuffer<'_>) -> Parsed<For>
     ensures reads { Computes IsSyntax for_syntax (parse_form (plainly (word w_for)) input.old) result input.new }
     ensures moved { Moved input.old result input.new }
 {
@@ -211,7 +211,7 @@ fn for_behind_bang(bang_token: Not, input: &mut ParseBuffer<'_>) -> Parsed<For>
     }
 }
 
-/// A path as a trait's, with `for` and a self type behind it; or as the self type.
+/// A path as a trait's, followed by `for` and a self type; or as the self type.
 #[tactic(auto, using(crate::proofs::FirstTypes::path_refused, crate::proofs::FirstTypes::plain_read, crate::proofs::FirstTypes::trait_for_refused, crate::proofs::FirstTypes::trait_type_refused, crate::proofs::FirstTypes::trait_read))]
 fn behind_path(input: &mut ParseBuffer<'_>) -> Parsed<ImplTypes>
     ensures reads { ReadsBefore IsSyntax types_before (λ f. wrap Right (wrap Left (path_then f input.old))) result input.new }
@@ -236,7 +236,7 @@ fn behind_path(input: &mut ParseBuffer<'_>) -> Parsed<ImplTypes>
     })
 }
 
-/// The where clause of an impl, if there is one. In it stands no self type.
+/// The where clause of an impl, if there is one. It holds no self type.
 #[tactic(auto, using(crate::proofs::FirstTypes::clause_read))]
 fn impl_clause(input: &mut ParseBuffer<'_>) -> Parsed<Option<WhereClause>>
     ensures reads { Computes IsSyntax (λ w. without_self_type (where_part w)) (parse_rule rules.where_clause input.old) result input.new }
@@ -245,7 +245,7 @@ fn impl_clause(input: &mut ParseBuffer<'_>) -> Parsed<Option<WhereClause>>
     where_clause(input)
 }
 
-/// An impl, behind its types.
+/// An impl, after its types.
 #[tactic(auto, using(syn_grammar::proofs::Each::impl_body_is, crate::proofs::MemberLists::impl_members))]
 pub(crate) fn impl_end(
     marks: ImplMarks,
@@ -276,7 +276,7 @@ pub(crate) fn impl_end(
     })
 }
 
-/// An impl among items, behind its generics; `None` where it is kept as its tokens: with a first type that is no plain path before `for`.
+/// An impl among items, after its generics; `None` where it is kept verbatim: with a first type that is no plain path before `for`.
 #[tactic(auto, using(crate::proofs::ItemImpls::odd_kept, crate::proofs::ItemImpls::first_refused, crate::proofs::ItemImpls::for_kept, crate::proofs::ItemImpls::impl_read, crate::proofs::ItemImpls::end_refused))]
 pub(crate) fn impl_or_kept(
     marks: ImplMarks,
@@ -284,7 +284,7 @@ pub(crate) fn impl_or_kept(
     input: &mut ParseBuffer<'_>,
 ) -> Parsed<Option<ItemImpl>>
     requires outer { all_attributes_syntax marks.attrs.items ≡ attributes_syntax marks.attrs.items }
-    ensures follows { (ts : Stream) → Follows IsSyntax (λ item. Node (Case rules.impl_definition item)) rules.kept_item ts (run_plan (impl_types_behind marks (first generics)) rules.kept_item ts input.old) result input.new }
+    ensures follows { (ts : Stream) → Follows IsSyntax (λ item. Node (Case rules.impl_definition item)) rules.kept_item ts (run_plan (impl_types_after marks (first generics)) rules.kept_item ts input.old) result input.new }
 {
     if at_odd_negative(input) {
         return Ok(None);
@@ -296,7 +296,7 @@ pub(crate) fn impl_or_kept(
     Ok(Some(impl_end(marks, generics, types, input)?))
 }
 
-/// Whether `!` stands next, with neither braces nor a path in module style behind it.
+/// Whether `!` is next, with neither braces nor a path in module style after it.
 fn at_odd_negative(input: &ParseBuffer<'_>) -> bool
     ensures { result ≡ odd_negative input.now }
 {

@@ -6,7 +6,7 @@ use super::Item;
 use syn_tree::derive::{Data, DeriveInput};
 use syn_tree::item::{item_enum, item_struct, item_union};
 
-/// All fields are moved, spans included: the item stands for what the input stands for. An input that was made of an item gives
+/// All fields are moved, spans included: the item represents what the input represents. An input that was made of an item gives
 /// that item back.
 impl From<DeriveInput> for Item {
     ghost from_gives = { λ input item. item ≡ item_in input };

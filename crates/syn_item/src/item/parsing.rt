@@ -1,4 +1,4 @@
-//! The parser of items. It follows the plan of items: attributes and a visibility are read once, and then what stands next tells the kind.
+//! The parser of items. It follows the plan of items: attributes and a visibility are read once, and then the next token decides the kind.
 ghost use Rattle.std.specs.Prelude.{◌≡◌};
 ghost use Rattle.syn_grammar.specs.ItemPlan as plan;
 ghost use Rattle.syn_grammar.specs.Plan.{run_plan};
@@ -9,7 +9,7 @@ ghost use Rattle.syn_grammar.specs.Tokens.{Stream, at_word, ◌or_else◌};
 ghost use Rattle.syn_grammar.specs.Words.{w_async, w_fn};
 ghost use Rattle.syn_lower.specs.Attributes.{all_attributes_syntax, attributes_syntax};
 ghost use Rattle.syn_lower.specs.Parsing.{of, rule, meaning_of_rule, IsSyntax};
-ghost use Rattle.syn_item.specs.ItemStages.{behind_place, other_kinds_plan, other_plan_of, place_of as place_in_grammar};
+ghost use Rattle.syn_item.specs.ItemStages.{after_place, other_kinds_plan, other_plan_of, place_of as place_in_grammar};
 ghost use Rattle.syn_item.specs.ItemTurns.{default_next, no_visibility, place_next};
 ghost use Rattle.syn_item.specs.Items.{syntax_of_Item};
 ghost use Rattle.syn_item.specs.Planned.{Follows};
@@ -22,7 +22,7 @@ mod traits;
 use super::Item;
 use crate::pieces::kept_tokens;
 use crate::simple::{macro_as_item_rest, module};
-use functions::{behind_const, behind_extern, behind_unsafe, function_or_kept};
+use functions::{after_extern, after_unsafe, behind_const, function_or_kept};
 use impls::{bare_impl, default_impl};
 use kept::{static_or_kept, type_or_kept, use_or_kept};
 use syn_lower::Attribute;
@@ -38,16 +38,16 @@ use syn_tokens::token::{
     Async, Const, Default, Enum, Extern, Fn, Impl, Mod, Pub, Static, Struct, Trait, Type, Unsafe,
     Use,
 };
-use syn_tree::item::{enum_behind, struct_behind, union_behind};
+use syn_tree::item::{enum_after_visibility, struct_after_visibility, union_after_visibility};
 use syn_tree::restriction::Visibility;
-use traits::{trait_behind, trait_or_alias};
+use traits::{trait_after, trait_or_alias};
 
-/// Where an item stands, behind its attributes.
+/// The place of an item, after its attributes.
 #[derive(Clone, Copy, Debug)]
 enum Place {
-    /// Behind `pub`.
+    /// After `pub`.
     Public,
-    /// Behind an invisible group without content, which stands for a visibility that isn't written.
+    /// After an invisible group without content, which represents a visibility that isn't written.
     Unwritten,
     /// With no visibility before it.
     Plain,
@@ -62,7 +62,7 @@ struct Begun {
 }
 
 impl Begun {
-    /// Whether no visibility stands before it.
+    /// Whether no visibility is before it.
     fn is_plain(&self) -> bool
         ensures { result ≡ no_visibility (place_in_grammar self.now.place) }
     {
@@ -74,7 +74,7 @@ impl Begun {
     }
 }
 
-/// An item: attributes, a visibility, and then what the next words tell. It is kept as its tokens where it is
+/// An item: attributes, a visibility, and then the next words decide. It is kept verbatim where it is
 ///
 /// - a function without a body,
 /// - a use of trees in braces of which one has `::` before it,
@@ -87,7 +87,7 @@ impl Begun {
 /// - an impl of what is no plain path for a type,
 /// - or an impl with `pub` and `const`.
 ///
-/// It is refused at the first token that can't stand there.
+/// It is refused at the first token that can't be there.
 impl Read for Item {
     ghost form = { of (rule rules.item) };
 
@@ -105,7 +105,7 @@ impl Read for Item {
     }
 }
 
-/// An item, behind its attributes; `None` where it is kept as its tokens.
+/// An item, after its attributes; `None` where it is kept verbatim.
 #[tactic(auto, using(crate::proofs::ItemPlans::visibility_refused))]
 fn item_behind(attrs: Vec<Attribute>, input: &mut ParseBuffer<'_>) -> Parsed<Option<Item>>
     requires outer { all_attributes_syntax attrs.items ≡ attributes_syntax attrs.items }
@@ -116,7 +116,7 @@ fn item_behind(attrs: Vec<Attribute>, input: &mut ParseBuffer<'_>) -> Parsed<Opt
     behind_visibility(Begun { place, attrs, vis }, input)
 }
 
-/// Where what stands next stands.
+/// The span of the next token.
 fn place_of(input: &ParseBuffer<'_>) -> Place
     ensures { place_in_grammar result ≡ place_next input.now }
 {
@@ -129,22 +129,22 @@ fn place_of(input: &ParseBuffer<'_>) -> Place
     }
 }
 
-/// An item, behind its visibility; `None` where it is kept as its tokens.
+/// An item, after its visibility; `None` where it is kept verbatim.
 #[tactic(auto, using(crate::proofs::ItemPlans::struct_refused, crate::proofs::ItemPlans::enum_refused, crate::proofs::ItemPlans::union_refused, crate::proofs::ItemPlans::type_follows, crate::proofs::ItemPlans::static_follows, crate::proofs::ItemPlans::use_follows, crate::proofs::ItemPlans::mod_refused))]
 fn behind_visibility(begun: Begun, input: &mut ParseBuffer<'_>) -> Parsed<Option<Item>>
     requires outer { all_attributes_syntax begun.attrs.items ≡ attributes_syntax begun.attrs.items }
-    ensures follows { (ts : Stream) → Follows IsSyntax syntax_of_Item rules.kept_item ts (run_plan (behind_place begun) rules.kept_item ts input.old) result input.new }
+    ensures follows { (ts : Stream) → Follows IsSyntax syntax_of_Item rules.kept_item ts (run_plan (after_place begun) rules.kept_item ts input.old) result input.new }
 {
     if input.peek::<Struct>() {
-        let item = struct_behind(begun.attrs, begun.vis, input)?;
+        let item = struct_after_visibility(begun.attrs, begun.vis, input)?;
         return Ok(Some(Item::Struct(item)));
     }
     if input.peek::<Enum>() {
-        let item = enum_behind(begun.attrs, begun.vis, input)?;
+        let item = enum_after_visibility(begun.attrs, begun.vis, input)?;
         return Ok(Some(Item::Enum(item)));
     }
     if at_union(input) {
-        let item = union_behind(begun.attrs, begun.vis, input)?;
+        let item = union_after_visibility(begun.attrs, begun.vis, input)?;
         return Ok(Some(Item::Union(item)));
     }
     if input.peek::<Type>() {
@@ -163,7 +163,7 @@ fn behind_visibility(begun: Begun, input: &mut ParseBuffer<'_>) -> Parsed<Option
     other_kinds(begun, input)
 }
 
-/// The same, where none of these words stands next.
+/// The same, where none of these words is next.
 #[tactic(auto, using(crate::proofs::ItemPlans::trait_follows, crate::proofs::ItemPlans::auto_follows, crate::proofs::ItemPlans::definition_kept, crate::proofs::ItemPlans::impl_follows, crate::proofs::ItemPlans::rest_follows))]
 fn other_kinds(begun: Begun, input: &mut ParseBuffer<'_>) -> Parsed<Option<Item>>
     requires outer { all_attributes_syntax begun.attrs.items ≡ attributes_syntax begun.attrs.items }
@@ -173,7 +173,7 @@ fn other_kinds(begun: Begun, input: &mut ParseBuffer<'_>) -> Parsed<Option<Item>
         return trait_or_alias(begun, input);
     }
     if at_auto(input) {
-        return trait_behind(begun, None, None, input);
+        return trait_after(begun, None, None, input);
     }
     if input.peek::<token::Macro>() {
         return Ok(None);
@@ -182,10 +182,10 @@ fn other_kinds(begun: Begun, input: &mut ParseBuffer<'_>) -> Parsed<Option<Item>
         return function_or_kept(begun, input);
     }
     if input.peek::<Extern>() {
-        return behind_extern(begun, input);
+        return after_extern(begun, input);
     }
     if input.peek::<Unsafe>() {
-        return behind_unsafe(begun, input);
+        return after_unsafe(begun, input);
     }
     if input.peek::<Const>() {
         return behind_const(begun, input);
@@ -196,7 +196,7 @@ fn other_kinds(begun: Begun, input: &mut ParseBuffer<'_>) -> Parsed<Option<Item>
     without_keyword(begun, input)
 }
 
-/// Whether `fn` or `async` stands next.
+/// Whether `fn` or `async` is next.
 #[tactic(auto, using(syn_grammar::proofs::Looks::sees_or))]
 fn at_function_word(input: &ParseBuffer<'_>) -> bool
     ensures { result ≡ sees (at_word w_fn or_else at_word w_async) input.now }
@@ -204,7 +204,7 @@ fn at_function_word(input: &ParseBuffer<'_>) -> bool
     input.peek::<Fn>() || input.peek::<Async>()
 }
 
-/// Whether `default` stands next, and no macro of that name. Refused only where memory is.
+/// Whether `default` is next, and no macro of that name. Refused only where memory is.
 fn at_default_impl(input: &ParseBuffer<'_>) -> Parsed<bool>
     ensures { OrMemory IsSyntax result (λ answer. answer ≡ default_next input.now) }
 {
@@ -214,7 +214,7 @@ fn at_default_impl(input: &ParseBuffer<'_>) -> Parsed<bool>
     Ok(!is_before_macro(input)?)
 }
 
-/// What else may stand, where no visibility was read: an impl behind `default`, or a macro.
+/// What else is allowed without a visibility: an impl after `default`, or a macro.
 #[tactic(auto, using(crate::proofs::ItemPlans::visible_refused, crate::proofs::ItemPlans::macro_refused))]
 fn without_keyword(begun: Begun, input: &mut ParseBuffer<'_>) -> Parsed<Option<Item>>
     requires outer { all_attributes_syntax begun.attrs.items ≡ attributes_syntax begun.attrs.items }

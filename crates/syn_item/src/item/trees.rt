@@ -1,4 +1,4 @@
-//! Items as the trees that deferred ones stand for.
+//! Items as the trees that deferred ones represent.
 ghost use Rattle.syn_item.specs.Items.{syntax_of_Item};
 ghost use Rattle.syn_item.specs.Parts.{members_of};
 
@@ -31,7 +31,7 @@ impl Syntactic for Items {
     ghost syntax = { λ items. members_of syntax_of_Item items.0.items };
 }
 
-/// They are printed one behind the other.
+/// They are printed one after the other.
 impl Print for Items {
     fn print_in(&self, out: &mut StreamBuilder) -> Result<(), AllocError> {
         print_members(&self.0, out)

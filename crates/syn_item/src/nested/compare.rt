@@ -8,7 +8,7 @@ use crate::use_tree::{UseName, UsePath, UseRename, UseTree};
 pub use syn_pat::nested::compare::{CompareNested, CompareOf, Knot, same_list};
 use syn_tokens::syntactic::compare::Compared;
 
-/// Never: behind the word of a path stands `::`.
+/// Never: `::` follows the word of a path.
 #[tactic(auto, using(syn_grammar::proofs::Same::and_false))]
 fn is_name(path: &UsePath, name: &UseName) -> bool
     ensures same { result ≡ same_syntax (by_word path.now) (by_word name.now) }
@@ -18,7 +18,7 @@ fn is_name(path: &UsePath, name: &UseName) -> bool
     false
 }
 
-/// Never: behind the word of a path stands `::`, and not `as`.
+/// Never: `::` follows the word of a path, and not `as`.
 #[tactic(auto, using(syn_grammar::proofs::Same::and_false))]
 fn is_rename(path: &UsePath, rename: &UseRename) -> bool
     ensures same { result ≡ same_syntax (by_word path.now) (by_word rename.now) }
@@ -28,7 +28,7 @@ fn is_rename(path: &UsePath, rename: &UseRename) -> bool
     false
 }
 
-/// Never: behind a word alone stands nothing.
+/// Never: nothing follows a word alone.
 #[tactic(auto, using(syn_grammar::proofs::Same::and_false))]
 fn is_renamed(name: &UseName, rename: &UseRename) -> bool
     ensures same { result ≡ same_syntax (by_word name.now) (by_word rename.now) }

@@ -1,4 +1,4 @@
-//! Parsers of what stands in the parentheses of a signature: receivers, parameters with a type, and a variadic one.
+//! Parsers of what is in the parentheses of a signature: receivers, parameters with a type, and a variadic one.
 ghost use Rattle.std.specs.Prelude.{◌≡◌, IfOk, Some, None, false, true};
 ghost use Rattle.syn_grammar.specs.Rules as rules;
 ghost use Rattle.syn_grammar.specs.Table as table;
@@ -12,7 +12,7 @@ ghost use Rattle.syn_tokens.specs.Kinds.{colon_syntax, comma_syntax, self_value_
 ghost use Rattle.syn_tokens.specs.Leaves.{maybe};
 ghost use Rattle.syn_lower.specs.Attributes.{attributes_syntax};
 ghost use Rattle.syn_lower.specs.Parsing.{of, rule, meaning_of_rule, parse_form, parse_rule, sees, Computes, Kept, Moved, itself, IsSyntax, list_of};
-ghost use Rattle.syn_item.specs.SignatureForms.{with_attributes, is_first, kind_form, named_pattern, of_variadic, other_parameter, own_self_form, parameter_behind, parameter_syntax, read_parameter, reference_form, typed_parameter, wild_at};
+ghost use Rattle.syn_item.specs.SignatureForms.{with_attributes, is_first, kind_form, named_pattern, of_variadic, other_parameter, own_self_form, parameter_after, parameter_syntax, read_parameter, reference_form, typed_parameter, wild_at};
 ghost use Rattle.syn_item.specs.Signatures.{parameters_of, received, syntax_of_FnArg, syntax_of_ReceiverKind, typed_argument};
 ghost use Rattle.syn_pat.specs.Patterns.{syntax_of_Pat};
 
@@ -44,7 +44,7 @@ enum OneParameter {
     Variadic(Variadic),
 }
 
-/// Parameters to the end, separated by commas; the last comma may stand or not. A receiver stands first only, and a variadic one last only.
+/// Parameters to the end, separated by commas; the last comma is optional. A receiver is first only, and a variadic one last only.
 pub(crate) fn parameters(input: &mut ParseBuffer<'_>) -> Parsed<ParameterList>
     ensures reads { Computes IsSyntax (λ p. parameters_of (list_of syntax_of_FnArg comma_syntax p.inputs.pairs p.inputs.last) (maybe itself p.variadic)) (parse_rule rules.inputs input.old) result input.new }
     ensures kept { Kept input.old result input.new }
@@ -87,7 +87,7 @@ fn before_variadic(inputs: Punctuated<FnArg, Comma>, last: Variadic) -> Paramete
     }
 }
 
-/// The parameter behind these.
+/// The parameter after these.
 #[tactic(auto, using(crate::proofs::Inputs::none_before, crate::proofs::Inputs::some_before), unfolding(crate::specs::SignatureForms::read_parameter))]
 fn parameter(inputs: &Punctuated<FnArg, Comma>, input: &mut ParseBuffer<'_>) -> Parsed<OneParameter>
     ensures reads { Computes IsSyntax parameter_syntax (read_parameter (is_first inputs.now.pairs inputs.now.last) input.old) result input.new }
@@ -103,7 +103,7 @@ fn parameter(inputs: &Punctuated<FnArg, Comma>, input: &mut ParseBuffer<'_>) -> 
     Ok(OneParameter::Input(FnArg::Receiver(receiver(attrs, input)?)))
 }
 
-/// Refuses a receiver behind other parameters: at its `self`; or, where there is none, at what only begins like a receiver.
+/// Refuses a receiver after other parameters: at its `self`; or, where there is none, at what only begins like a receiver.
 fn late_receiver(inputs: &Punctuated<FnArg, Comma>, input: &ParseBuffer<'_>) -> Parsed<OneParameter>
     ensures { IfOk result (λ _. ⊥) }
 {
@@ -118,7 +118,7 @@ fn late_receiver(inputs: &Punctuated<FnArg, Comma>, input: &ParseBuffer<'_>) -> 
     }
 }
 
-/// Where the `self` of the receiver stands that stands next. A `self` before `::` is none.
+/// The span of the `self` of the receiver that is next. A `self` before `::` is none.
 fn span_of_self(input: &ParseBuffer<'_>) -> Parsed<Option<Span>> {
     let mut ahead = input.fork();
     let _and: Option<And> = ahead.read()?;
@@ -131,7 +131,7 @@ fn span_of_self(input: &ParseBuffer<'_>) -> Parsed<Option<Span>> {
     }
 }
 
-/// A parameter that is no receiver, behind its attributes: `...` with a pattern and a colon before it or without them; or a pattern, a
+/// A parameter that is no receiver, after its attributes: `...` with a pattern and a colon before it or without them; or a pattern, a
 /// colon and a type.
 #[tactic(auto, unfolding(crate::specs::SignatureForms::other_parameter))]
 fn other(attrs: Vec<Attribute>, input: &mut ParseBuffer<'_>) -> Parsed<OneParameter>
@@ -142,18 +142,18 @@ fn other(attrs: Vec<Attribute>, input: &mut ParseBuffer<'_>) -> Parsed<OneParame
         return Ok(OneParameter::Variadic(variadic(attrs, None, input)?));
     }
     let (pat, colon_token) = pattern(input)?;
-    behind_pattern(attrs, pat, colon_token, input)
+    after_pattern(attrs, pat, colon_token, input)
 }
 
-/// A parameter behind its pattern and colon: `...` or a type.
-#[tactic(auto, using(crate::proofs::Receivers::typed_is), unfolding(crate::specs::SignatureForms::parameter_behind))]
-fn behind_pattern(
+/// A parameter after its pattern and colon: `...` or a type.
+#[tactic(auto, using(crate::proofs::Receivers::typed_is), unfolding(crate::specs::SignatureForms::parameter_after))]
+fn after_pattern(
     attrs: Vec<Attribute>,
     pat: Box<Pat>,
     colon_token: Colon,
     input: &mut ParseBuffer<'_>,
 ) -> Parsed<OneParameter>
-    ensures reads { Computes IsSyntax parameter_syntax (parameter_behind (attributes_syntax attrs.items) (Both (syntax_of_Pat pat.value) (colon_syntax colon_token)) input.old) result input.new }
+    ensures reads { Computes IsSyntax parameter_syntax (parameter_after (attributes_syntax attrs.items) (Both (syntax_of_Pat pat.value) (colon_syntax colon_token)) input.old) result input.new }
     ensures moved { Moved input.old result input.new }
 {
     if input.peek::<DotDotDot>() {
@@ -168,7 +168,7 @@ fn behind_pattern(
     })))
 }
 
-/// `...`, and perhaps a comma, and nothing behind them.
+/// `...`, and perhaps a comma, and nothing after them.
 #[tactic(auto, using(syn_grammar::proofs::Each::variadic_is))]
 fn variadic(
     attrs: Vec<Attribute>,
@@ -204,7 +204,7 @@ fn pattern(input: &mut ParseBuffer<'_>) -> Parsed<(Box<Pat>, Colon)>
     }
 }
 
-/// `_`, where the next token stands.
+/// `_`, with the span of the next token.
 #[tactic(auto, using(crate::proofs::Supplied::name_spanned), unfolding(syn_lower::specs::Attributes::outer_listed))]
 fn wild(input: &ParseBuffer<'_>) -> Parsed<Box<Pat>>
     requires next { sees (at_unnamed Before_less) input.now ≡ true }
@@ -218,7 +218,7 @@ fn wild(input: &ParseBuffer<'_>) -> Parsed<Box<Pat>>
 }
 
 /// A receiver without attributes: `&`, perhaps with a lifetime and `mut`, and `self`; or `self`, perhaps with `mut` before it and a type
-/// behind a colon.
+/// after a colon.
 ///
 /// An attribute is refused. A `self` before `::` is none: the fault is ``expected `:` ``, at the `::`.
 impl Read for Receiver {
@@ -235,7 +235,7 @@ impl Read for Receiver {
     }
 }
 
-/// Attributes, and a receiver, or a pattern, a colon and a type. Where a name stands before `<`, the type stands alone, and `_` and `:` are
+/// Attributes, and a receiver, or a pattern, a colon and a type. If a name precedes `<`, the type is alone, and `_` and `:` are
 /// supplied, where it begins.
 impl Read for FnArg {
     ghost form = { of (rule rules.argument) };
@@ -253,7 +253,7 @@ impl Read for FnArg {
     }
 }
 
-/// A parameter with a type, behind its attributes.
+/// A parameter with a type, after its attributes.
 #[tactic(auto, using(crate::proofs::Receivers::typed_is), unfolding(crate::specs::SignatureForms::typed_parameter))]
 fn typed(attrs: Vec<Attribute>, input: &mut ParseBuffer<'_>) -> Parsed<PatType>
     ensures reads { Computes IsSyntax typed_argument (typed_parameter (attributes_syntax attrs.items) input.old) result input.new }
@@ -268,7 +268,7 @@ fn typed(attrs: Vec<Attribute>, input: &mut ParseBuffer<'_>) -> Parsed<PatType>
     })
 }
 
-/// A receiver behind its attributes.
+/// A receiver after its attributes.
 #[tactic(auto, using(syn_grammar::proofs::Each::receiver_rest_is, crate::proofs::Receivers::by_value))]
 fn receiver(attrs: Vec<Attribute>, input: &mut ParseBuffer<'_>) -> Parsed<Receiver>
     ensures reads { Computes IsSyntax itself (wrap (with_attributes (attributes_syntax attrs.items)) (parse_rule rules.receiver_rest input.old)) result input.new }
@@ -313,7 +313,7 @@ fn own_self(input: &mut ParseBuffer<'_>) -> Parsed<SelfValue>
     Ok(self_token)
 }
 
-/// A colon and a type where a colon stands next.
+/// A colon and a type where a colon is next.
 fn value_or_typed(input: &mut ParseBuffer<'_>) -> Parsed<ReceiverKind>
     ensures reads { Computes IsSyntax syntax_of_ReceiverKind (wrap Right (parse_form kind_form input.old)) result input.new }
     ensures kept { Kept input.old result input.new }

@@ -14,7 +14,7 @@ ghost use Rattle.syn_tokens.specs.Kinds.{fn_syntax};
 ghost use Rattle.syn_tokens.specs.Leaves.{maybe, syntax_of_ident, syntax_of_literal, syntax_of_word};
 ghost use Rattle.syn_lower.specs.Parts.{first};
 ghost use Rattle.syn_lower.specs.Parsing.{inside, of, meaning_of_rule, parse_form, parse_rule, sees, take_token, Computes, Kept, Moved, Parses, Outcome, itself, IsSyntax, IsSyntaxError};
-ghost use Rattle.syn_item.specs.SignatureForms.{behind_qualifiers, end_form, end_syntax, parameters_syntax, qualifiers_syntax, string_form};
+ghost use Rattle.syn_item.specs.SignatureForms.{after_qualifiers, end_form, end_syntax, parameters_syntax, qualifiers_syntax, string_form};
 ghost use Rattle.syn_item.specs.Signatures.{syntax_of_Safety};
 
 use crate::sig::parameters::{ParameterList, parameters};
@@ -30,7 +30,7 @@ use syn_tokens::ident::Ident;
 use syn_tokens::literal::Literal;
 use syn_tokens::token::{Async, Const, Extern, Fn, Paren, Word, WordKind, kind};
 
-/// What stands before the `fn` of a signature.
+/// What is before the `fn` of a signature.
 #[derive(Drop)]
 pub(crate) struct Qualifiers {
     pub constness: Option<Const>,
@@ -43,7 +43,7 @@ pub(crate) struct Qualifiers {
 /// clause.
 ///
 /// A receiver that isn't the first parameter is refused at its `self`, with the fault `unexpected method receiver`, or, where the first is
-/// one too, `unexpected second method receiver`. All else is refused at the first token that can't stand there.
+/// one too, `unexpected second method receiver`. All else is refused at the first token that can't be there.
 impl Read for Signature {
     ghost form = { of (rule rules.signature) };
 
@@ -61,7 +61,7 @@ impl Read for Signature {
     }
 }
 
-/// A signature in a foreign module: as any other, but `safe` may stand in place of `unsafe`.
+/// A signature in a foreign module: as any other, but `safe` is allowed in place of `unsafe`.
 #[tactic(auto, using(syn_grammar::proofs::Each::foreign_signature_is))]
 pub fn foreign_signature(input: &mut ParseBuffer<'_>) -> Parsed<Signature>
     ensures parses { Parses IsSyntax itself rules.foreign_signature input.old result input.new }
@@ -75,13 +75,13 @@ pub fn foreign_signature(input: &mut ParseBuffer<'_>) -> Parsed<Signature>
     signature_rest(qualifiers, input)
 }
 
-/// A signature behind what stands before its `fn`.
+/// A signature after what is before its `fn`.
 #[tactic(auto, using(syn_grammar::proofs::Each::signature_rest_is))]
 pub(crate) fn signature_rest(
     qualifiers: Qualifiers,
     input: &mut ParseBuffer<'_>,
 ) -> Parsed<Signature>
-    ensures reads { Computes IsSyntax itself (wrap (behind_qualifiers (qualifiers_syntax qualifiers)) (parse_rule rules.signature_rest input.old)) result input.new }
+    ensures reads { Computes IsSyntax itself (wrap (after_qualifiers (qualifiers_syntax qualifiers)) (parse_rule rules.signature_rest input.old)) result input.new }
     ensures moved { Moved input.old result input.new }
 {
     let fn_token = input.read()?;
@@ -100,7 +100,7 @@ fn signature_of(
     parameters: (Paren, ParameterList),
     end: (ReturnType, Option<WhereClause>),
 ) -> Signature
-    ensures made { result ≡ behind_qualifiers (qualifiers_syntax qualifiers) (Node (Both (fn_syntax named.0) (Both (syntax_of_ident named.1) (Both (first named.2) (Both (parameters_syntax parameters) (end_syntax end)))))) }
+    ensures made { result ≡ after_qualifiers (qualifiers_syntax qualifiers) (Node (Both (fn_syntax named.0) (Both (syntax_of_ident named.1) (Both (first named.2) (Both (parameters_syntax parameters) (end_syntax end)))))) }
 {
     let (fn_token, ident, generics) = named;
     let (paren_token, parameters) = parameters;
@@ -132,7 +132,7 @@ fn in_parentheses(input: &mut ParseBuffer<'_>) -> Parsed<(Paren, ParameterList)>
     Ok((paren_token, parameters))
 }
 
-/// What stands behind the parameters: a return type and a where clause, each of them or not.
+/// What follows the parameters: a return type and a where clause, each of them or not.
 fn signature_end(input: &mut ParseBuffer<'_>) -> Parsed<(ReturnType, Option<WhereClause>)>
     ensures reads { Computes IsSyntax end_syntax (parse_form end_form input.old) result input.new }
     ensures kept { Kept input.old result input.new }
@@ -155,7 +155,7 @@ impl Peek for Abi {
     }
 }
 
-/// `extern`, with a string behind it or without one. A literal of another kind is left.
+/// `extern`, followed by a string or without one. A literal of another kind is left.
 impl Read for Abi {
     ghost form = { of (rule rules.abi) };
 
@@ -170,7 +170,7 @@ impl Read for Abi {
     }
 }
 
-/// A string where one stands next.
+/// A string where one is next.
 #[tactic(auto, using(crate::proofs::Strings::string_taken))]
 fn string(input: &mut ParseBuffer<'_>) -> Parsed<Option<Literal>>
     ensures reads { Computes IsSyntax (maybe syntax_of_literal) (parse_form string_form input.old) result input.new }
@@ -184,7 +184,7 @@ fn string(input: &mut ParseBuffer<'_>) -> Parsed<Option<Literal>>
 }
 
 impl Safety {
-    /// Parses `safe` or `unsafe` where either stands next. Else it reads nothing, and it is `Safety::Default`. It is `Ok` on every buffer, and
+    /// Parses `safe` or `unsafe` where either is next. Else it reads nothing, and it is `Safety::Default`. It is `Ok` on every buffer, and
     /// takes no memory.
     pub fn parse_safe_or_unsafe(input: &mut ParseBuffer<'_>) -> Result<Safety>
         ensures outcome { Outcome IsSyntaxError syntax_of_Safety (rule rules.safe_or_unsafe) input.old result input.new }
@@ -195,7 +195,7 @@ impl Safety {
         Ok(safe_or_unsafe(input))
     }
 
-    /// Parses `unsafe` where it stands next. Else, also before `safe`, it reads nothing, and it is `Safety::Default`. It is `Ok` on every
+    /// Parses `unsafe` where it is next. Else, also before `safe`, it reads nothing, and it is `Safety::Default`. It is `Ok` on every
     /// buffer, and takes no memory.
     pub fn parse_unsafe_only(input: &mut ParseBuffer<'_>) -> Result<Safety>
         ensures outcome { Outcome IsSyntaxError syntax_of_Safety (rule rules.unsafe_only) input.old result input.new }
@@ -207,7 +207,7 @@ impl Safety {
     }
 }
 
-/// `safe` or `unsafe` where either stands next.
+/// `safe` or `unsafe` where either is next.
 #[tactic(auto, using(syn_grammar::proofs::Each::safe_or_unsafe_is, syn_grammar::proofs::Looks::sees_or))]
 pub(crate) fn safe_or_unsafe(input: &mut ParseBuffer<'_>) -> Safety
     ensures reads { parse_rule rules.safe_or_unsafe input.old ≡ Some (syntax_of_Safety result, input.new) }
@@ -222,7 +222,7 @@ pub(crate) fn safe_or_unsafe(input: &mut ParseBuffer<'_>) -> Safety
     }
 }
 
-/// `unsafe` where it stands next.
+/// `unsafe` where it is next.
 #[tactic(auto, using(syn_grammar::proofs::Each::unsafe_only_is))]
 pub(crate) fn unsafe_only(input: &mut ParseBuffer<'_>) -> Safety
     ensures reads { parse_rule rules.unsafe_only input.old ≡ Some (syntax_of_Safety result, input.new) }
@@ -234,8 +234,8 @@ pub(crate) fn unsafe_only(input: &mut ParseBuffer<'_>) -> Safety
     }
 }
 
-/// The word of this kind where it stands next. It takes no memory.
-#[tactic(auto, using(crate::proofs::Standing::word_stands, crate::proofs::Standing::no_word))]
+/// The word of this kind where it is next. It takes no memory.
+#[tactic(auto, using(crate::proofs::Standing::word_present, crate::proofs::Standing::no_word))]
 fn standing<K: WordKind>(input: &mut ParseBuffer<'_>) -> Option<Word<K>>
     ensures read { MatchOption result
         ((sees (at_word K.text) input.old ≡ false) × (input.new ≡ input.old))

@@ -32,9 +32,9 @@ use syn_tokens::token::{self, Eq, Plus, Semi, Where};
 use syn_tree::item::TypeModifiers;
 use syn_tree::restriction::Visibility;
 
-/// Attributes, a visibility, `type`, a name, generics, `=` and a type with a where clause before the `=` or behind the type, and `;`.
+/// Attributes, a visibility, `type`, a name, generics, `=` and a type with a where clause before the `=` or after the type, and `;`.
 ///
-/// Where a clause stands at both places, what follows the second one is refused.
+/// Where a clause is at both places, what follows the second one is refused.
 impl Read for ItemType {
     ghost form = { of (rule rules.type_item) };
 
@@ -47,7 +47,7 @@ impl Read for ItemType {
     }
 }
 
-/// A type alias behind its attributes.
+/// A type alias after its attributes.
 #[tactic(auto, using(syn_grammar::proofs::Each::type_item_rest_is))]
 pub(crate) fn type_rest(attrs: Vec<Attribute>, input: &mut ParseBuffer<'_>) -> Parsed<ItemType>
     ensures reads { Computes IsSyntax itself (wrap (Both (attributes_syntax attrs.items)) (parse_rule rules.type_item_rest input.old)) result input.new }
@@ -57,7 +57,7 @@ pub(crate) fn type_rest(attrs: Vec<Attribute>, input: &mut ParseBuffer<'_>) -> P
     type_alias(attrs, vis, input)
 }
 
-/// A type alias behind its visibility.
+/// A type alias after its visibility.
 pub(crate) fn type_alias(
     attrs: Vec<Attribute>,
     vis: Visibility,
@@ -85,8 +85,8 @@ pub(crate) fn type_alias(
     })
 }
 
-/// A type alias behind its generics.
-pub(crate) fn type_behind_head(
+/// A type alias after its generics.
+pub(crate) fn type_after_head(
     attrs: Vec<Attribute>,
     vis: Visibility,
     head: (token::Type, Ident, Generics),
@@ -112,7 +112,7 @@ pub(crate) fn type_behind_head(
     })
 }
 
-/// What a type alias stands for, with its where clause.
+/// What a type alias represents, with its where clause.
 #[derive(Drop)]
 struct AliasParts {
     eq_token: Eq,
@@ -121,7 +121,7 @@ struct AliasParts {
     where_clause: Option<WhereClause>,
 }
 
-/// `=` and a type, with a where clause before them or behind them. Where none stands, its place is before them.
+/// `=` and a type, with a where clause before them or after them. If there is none, its place is before them.
 fn aliased(input: &mut ParseBuffer<'_>) -> Parsed<AliasParts>
     ensures reads { Computes IsSyntax aliased_syntax (parse_form aliased_form input.old) result input.new }
     ensures place { IfOk result (λ a. place_aside (syntax_of_WhereClausePlacement a.placement) (where_part a.where_clause) ≡ Unshown Nothing) }
@@ -142,7 +142,7 @@ fn aliased(input: &mut ParseBuffer<'_>) -> Parsed<AliasParts>
     })
 }
 
-/// `=` and a type, and what stands before them and behind them.
+/// `=` and a type, and what is before them and after them.
 #[derive(Drop)]
 struct Clauses {
     is_early: bool,
@@ -153,8 +153,8 @@ struct Clauses {
     late: Option<WhereClause>,
 }
 
-/// `=` and a type, with a where clause before them, behind them, or both.
-#[tactic(auto, using(crate::proofs::Aliases::alias_told, crate::proofs::Aliases::place_left))]
+/// `=` and a type, with a where clause before them, after them, or both.
+#[tactic(auto, using(crate::proofs::Aliases::alias_known, crate::proofs::Aliases::place_left))]
 fn alias_clauses(input: &mut ParseBuffer<'_>) -> Parsed<Clauses>
     ensures told { TellsAlias IsSyntax (parse_form aliased_form input.old) result input.new }
     ensures place { IfOk result (λ c. place_aside (syntax_of_WhereClausePlacement (place_by c.is_late)) (pick c.is_late (where_part c.late) (where_part c.early)) ≡ Unshown Nothing) }
@@ -176,7 +176,7 @@ fn alias_clauses(input: &mut ParseBuffer<'_>) -> Parsed<Clauses>
     })
 }
 
-/// The clause that stands, and its place.
+/// The clause that is there, and its place.
 fn placed(
     is_late: bool,
     early: Option<WhereClause>,
@@ -206,7 +206,7 @@ impl Read for ItemTraitAlias {
     }
 }
 
-/// A trait alias behind its attributes.
+/// A trait alias after its attributes.
 #[tactic(auto, using(syn_grammar::proofs::Each::trait_alias_rest_is))]
 pub(crate) fn trait_alias_rest(
     attrs: Vec<Attribute>,
@@ -219,7 +219,7 @@ pub(crate) fn trait_alias_rest(
     trait_alias(attrs, vis, input)
 }
 
-/// A trait alias behind its visibility.
+/// A trait alias after its visibility.
 #[tactic(auto, using(syn_grammar::proofs::Each::alias_is))]
 pub(crate) fn trait_alias(
     attrs: Vec<Attribute>,

@@ -26,7 +26,7 @@ use syn_tokens::ident::Ident;
 use syn_tokens::stream::TokenStream;
 use syn_tokens::token::Semi;
 
-/// Attributes, a path in module style, `!` that isn't `!=`, perhaps a name or `try`, and a group of any content, behind which `;` stands
+/// Attributes, a path in module style, `!` that isn't `!=`, perhaps a name or `try`, and a group of any content, followed by `;`
 /// unless it is in braces.
 ///
 /// Any path is read, also one that makes it no item among others, as `Self!{}`.
@@ -42,7 +42,7 @@ impl Read for ItemMacro {
     }
 }
 
-/// A macro as an item, behind its attributes.
+/// A macro as an item, after its attributes.
 #[tactic(auto, using(syn_grammar::proofs::Each::macro_item_rest_is))]
 pub(crate) fn macro_rest(attrs: Vec<Attribute>, input: &mut ParseBuffer<'_>) -> Parsed<ItemMacro>
     ensures reads { Computes IsSyntax itself (wrap (Both (attributes_syntax attrs.items)) (parse_rule rules.macro_item_rest input.old)) result input.new }
@@ -65,7 +65,7 @@ pub(crate) fn macro_rest(attrs: Vec<Attribute>, input: &mut ParseBuffer<'_>) -> 
     })
 }
 
-/// A macro among items, behind its attributes: its path begins neither with `Self`, nor with `default` before `::`.
+/// A macro among items, after its attributes: its path begins neither with `Self`, nor with `default` before `::`.
 #[tactic(auto, using(syn_grammar::proofs::Each::macro_as_item_rest_is))]
 pub(crate) fn macro_as_item_rest(
     attrs: Vec<Attribute>,
@@ -80,7 +80,7 @@ pub(crate) fn macro_as_item_rest(
     macro_rest(attrs, input)
 }
 
-/// The name that a macro is given: an identifier that is no keyword, or `try`, where one stands next.
+/// The name that a macro is given: an identifier that is no keyword, or `try`, where one is next.
 fn macro_name(input: &mut ParseBuffer<'_>) -> Parsed<Option<Ident>>
     ensures reads { Computes IsSyntax (maybe syntax_of_ident) (parse_form macro_name_form input.old) result input.new }
     ensures kept { Kept input.old result input.new }
@@ -92,8 +92,8 @@ fn macro_name(input: &mut ParseBuffer<'_>) -> Parsed<Option<Ident>>
     }
 }
 
-/// What ends a macro that stands as an item or a member: a group in braces, or one in parentheses or brackets and `;`.
-#[tactic(auto, using(crate::proofs::Macros::macro_ended), unfolding(crate::specs::Macros::ended_behind))]
+/// What ends a macro as an item or a member: a group in braces, or one in parentheses or brackets and `;`.
+#[tactic(auto, using(crate::proofs::Macros::macro_ended), unfolding(crate::specs::Macros::ended_after))]
 pub(crate) fn ended_group(
     input: &mut ParseBuffer<'_>,
 ) -> Parsed<(MacroDelimiter, TokenStream, Option<Semi>)>

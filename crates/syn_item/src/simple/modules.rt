@@ -41,7 +41,7 @@ impl Read for ItemExternCrate {
     }
 }
 
-/// An extern crate behind its attributes.
+/// An extern crate after its attributes.
 #[tactic(auto, using(syn_grammar::proofs::Each::extern_crate_rest_is))]
 pub(crate) fn extern_crate_rest(
     attrs: Vec<Attribute>,
@@ -54,7 +54,7 @@ pub(crate) fn extern_crate_rest(
     extern_crate(attrs, vis, input)
 }
 
-/// An extern crate behind its visibility.
+/// An extern crate after its visibility.
 pub(crate) fn extern_crate(
     attrs: Vec<Attribute>,
     vis: Visibility,
@@ -74,7 +74,7 @@ pub(crate) fn extern_crate(
     })
 }
 
-/// `as`, and a name or `_`, where `as` stands next.
+/// `as`, and a name or `_`, if `as` is next.
 fn rename(input: &mut ParseBuffer<'_>) -> Parsed<Option<(As, Ident)>>
     ensures reads { Computes IsSyntax (maybe (pair_of as_syntax syntax_of_ident)) (parse_form rename_form input.old) result input.new }
     ensures kept { Kept input.old result input.new }
@@ -88,7 +88,7 @@ fn rename(input: &mut ParseBuffer<'_>) -> Parsed<Option<(As, Ident)>>
 
 /// Attributes, a visibility, perhaps `unsafe`, `mod`, a name or `try`, and `;`, or inner attributes and items in braces.
 ///
-/// Inner attributes stand behind the outer ones in `attrs`. The items are kept as their tokens.
+/// Inner attributes follow the outer ones in `attrs`. The items are kept verbatim.
 impl Read for ItemMod {
     ghost form = { of (rule rules.module_item) };
 
@@ -101,7 +101,7 @@ impl Read for ItemMod {
     }
 }
 
-/// A module behind its attributes.
+/// A module after its attributes.
 #[tactic(auto, using(syn_grammar::proofs::Each::module_item_rest_is))]
 pub(crate) fn module_rest(attrs: Vec<Attribute>, input: &mut ParseBuffer<'_>) -> Parsed<ItemMod>
     requires outer { all_attributes_syntax attrs.items ≡ attributes_syntax attrs.items }
@@ -113,7 +113,7 @@ pub(crate) fn module_rest(attrs: Vec<Attribute>, input: &mut ParseBuffer<'_>) ->
     module(attrs, vis, unsafety, input)
 }
 
-/// A module behind its visibility and `unsafe`.
+/// A module after its visibility and `unsafe`.
 pub(crate) fn module(
     attrs: Vec<Attribute>,
     vis: Visibility,

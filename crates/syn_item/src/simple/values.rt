@@ -28,7 +28,7 @@ use syn_tree::restriction::Visibility;
 
 /// Attributes, a visibility, `const`, a name or `_`, `:`, a type, `=`, an expression and `;`.
 ///
-/// One with generics, with a where clause or without a value is refused where these begin, or at what stands in place of the value.
+/// One with generics, with a where clause or without a value is refused where these begin, or at what is in place of the value.
 impl Read for ItemConst {
     ghost form = { of (rule rules.const_item) };
 
@@ -41,7 +41,7 @@ impl Read for ItemConst {
     }
 }
 
-/// A constant behind its attributes.
+/// A constant after its attributes.
 #[tactic(auto, using(syn_grammar::proofs::Each::const_item_rest_is))]
 pub(crate) fn const_rest(attrs: Vec<Attribute>, input: &mut ParseBuffer<'_>) -> Parsed<ItemConst>
     ensures reads { Computes IsSyntax itself (wrap (Both (attributes_syntax attrs.items)) (parse_rule rules.const_item_rest input.old)) result input.new }
@@ -51,7 +51,7 @@ pub(crate) fn const_rest(attrs: Vec<Attribute>, input: &mut ParseBuffer<'_>) -> 
     constant(attrs, vis, input)
 }
 
-/// A constant behind its visibility.
+/// A constant after its visibility.
 pub(crate) fn constant(
     attrs: Vec<Attribute>,
     vis: Visibility,
@@ -105,7 +105,7 @@ impl Read for ItemStatic {
     }
 }
 
-/// A static behind its attributes.
+/// A static after its attributes.
 #[tactic(auto, using(syn_grammar::proofs::Each::static_item_rest_is))]
 pub(crate) fn static_rest(attrs: Vec<Attribute>, input: &mut ParseBuffer<'_>) -> Parsed<ItemStatic>
     ensures reads { Computes IsSyntax itself (wrap (Both (attributes_syntax attrs.items)) (parse_rule rules.static_item_rest input.old)) result input.new }
@@ -115,7 +115,7 @@ pub(crate) fn static_rest(attrs: Vec<Attribute>, input: &mut ParseBuffer<'_>) ->
     static_item(attrs, vis, input)
 }
 
-/// A static behind its visibility.
+/// A static after its visibility.
 pub(crate) fn static_item(
     attrs: Vec<Attribute>,
     vis: Visibility,
@@ -142,7 +142,7 @@ pub(crate) fn static_item(
     })
 }
 
-/// `mut` where it stands next. It is never refused.
+/// `mut` where it is next. It is never refused.
 impl Read for StaticMutability {
     ghost form = { of (optional w_mut) };
 

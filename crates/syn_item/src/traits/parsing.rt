@@ -15,15 +15,15 @@ ghost use Rattle.syn_tree.specs.Restriction.{syntax_of_Visibility};
 ghost use Rattle.syn_item.specs.NextWords.{marked_next};
 ghost use Rattle.syn_item.specs.Planned.{Follows};
 ghost use Rattle.syn_item.specs.Simple.{attributes_by_content};
-ghost use Rattle.syn_item.specs.Stages.{trait_const_or_kept, trait_item_plan_behind};
-ghost use Rattle.syn_item.specs.TraitForms.{behind_head, behind_marks, function_end_form, named_form, named_syntax, trait_end_form, trait_function_of, unmarked_form};
+ghost use Rattle.syn_item.specs.Stages.{trait_const_or_kept, trait_item_plan_after};
+ghost use Rattle.syn_item.specs.TraitForms.{after_head, after_marks, function_end_form, named_form, named_syntax, trait_end_form, trait_function_of, unmarked_form};
 ghost use Rattle.syn_item.specs.Traits.{function_end, syntax_of_TraitItem};
 
 use super::{ItemTrait, TraitItem, TraitItemConst, TraitItemFn, TraitItemMacro, TraitItemType};
 use crate::bodies::body;
 use crate::names::{OrUnderscore, name_or};
 use crate::pieces::{
-    at_function, behind_equals, braced, colon_and_supertraits, colon_and_type_bounds, kept_tokens,
+    after_equals, at_function, braced, colon_and_supertraits, colon_and_type_bounds, kept_tokens,
     member_macro,
 };
 use crate::sig::Signature;
@@ -42,7 +42,7 @@ use syn_tokens::token::{Auto, Const, Default, Lt, Pub, SelfType, Semi, Trait, Un
 use syn_tree::item::{ConstModifiers, FnModifiers, TraitModifiers, TypeModifiers};
 use syn_tree::restriction::Visibility;
 
-/// What stands before a trait's `auto` or `trait`.
+/// What is before a trait's `auto` or `trait`.
 #[derive(Drop)]
 pub(crate) struct TraitMarks {
     pub(crate) attrs: Vec<Attribute>,
@@ -61,7 +61,7 @@ pub(crate) struct TraitHead {
     pub(crate) generics: Generics,
 }
 
-/// Attributes, a visibility, perhaps `const`, perhaps `unsafe`, perhaps `auto`, `trait`, a name, generics, bounds behind a colon, a where
+/// Attributes, a visibility, perhaps `const`, perhaps `unsafe`, perhaps `auto`, `trait`, a name, generics, bounds after a colon, a where
 /// clause, and inner attributes and members in braces.
 impl Read for ItemTrait {
     ghost form = { of (rule rules.trait_definition) };
@@ -75,7 +75,7 @@ impl Read for ItemTrait {
     }
 }
 
-/// A trait, behind its attributes.
+/// A trait, after its attributes.
 #[tactic(auto, using(syn_grammar::proofs::Each::trait_definition_rest_is))]
 fn trait_definition_rest(attrs: Vec<Attribute>, input: &mut ParseBuffer<'_>) -> Parsed<ItemTrait>
     requires outer { all_attributes_syntax attrs.items ≡ attributes_syntax attrs.items }
@@ -87,7 +87,7 @@ fn trait_definition_rest(attrs: Vec<Attribute>, input: &mut ParseBuffer<'_>) -> 
     bare_trait(attrs, vis, constness, input)
 }
 
-/// A trait, behind its `const`.
+/// A trait, after its `const`.
 #[tactic(auto, using(syn_grammar::proofs::Each::bare_trait_is))]
 fn bare_trait(
     attrs: Vec<Attribute>,
@@ -108,10 +108,10 @@ fn bare_trait(
     unmarked_trait(marks, input)
 }
 
-/// A trait, behind its `unsafe`.
+/// A trait, after its `unsafe`.
 pub(crate) fn unmarked_trait(marks: TraitMarks, input: &mut ParseBuffer<'_>) -> Parsed<ItemTrait>
     requires outer { all_attributes_syntax marks.attrs.items ≡ attributes_syntax marks.attrs.items }
-    ensures reads { Computes IsSyntax itself (wrap (behind_marks marks) (parse_form unmarked_form input.old)) result input.new }
+    ensures reads { Computes IsSyntax itself (wrap (after_marks marks) (parse_form unmarked_form input.old)) result input.new }
     ensures moved { Moved input.old result input.new }
 {
     let auto_token = input.read()?;
@@ -134,11 +134,11 @@ pub(crate) fn named_trait(input: &mut ParseBuffer<'_>) -> Parsed<(Trait, Ident, 
     Ok((input.read()?, input.read()?, Generics::read_params(input)?))
 }
 
-/// A trait, behind its generics.
+/// A trait, after its generics.
 #[tactic(auto, using(crate::proofs::MemberLists::trait_members))]
 pub(crate) fn trait_end(head: TraitHead, input: &mut ParseBuffer<'_>) -> Parsed<ItemTrait>
     requires outer { all_attributes_syntax head.marks.attrs.items ≡ attributes_syntax head.marks.attrs.items }
-    ensures reads { Computes IsSyntax itself (wrap (behind_head head) (parse_form trait_end_form input.old)) result input.new }
+    ensures reads { Computes IsSyntax itself (wrap (after_head head) (parse_form trait_end_form input.old)) result input.new }
     ensures moved { Moved input.old result input.new }
 {
     let (colon_token, supertraits) = colon_and_supertraits(input)?;
@@ -168,8 +168,8 @@ pub(crate) fn trait_end(head: TraitHead, input: &mut ParseBuffer<'_>) -> Parsed<
     })
 }
 
-/// A member of a trait: attributes, and then what the next words tell. Behind `pub` or `default`, and as a constant with generics or with
-/// a where clause, it is kept as its tokens.
+/// A member of a trait: attributes, and then the next words decide. After `pub` or `default`, and as a constant with generics or with
+/// a where clause, it is kept verbatim.
 impl Read for TraitItem {
     ghost form = { of (rule rules.trait_item) };
 
@@ -179,7 +179,7 @@ impl Read for TraitItem {
     fn read(input: &mut ParseBuffer<'_>) -> Parsed<TraitItem> {
         let start = input.fork();
         let attrs = outer_attributes(input)?;
-        match trait_item_behind(attrs, input) {
+        match trait_item_after(attrs, input) {
             Ok(Some(member)) => Ok(member),
             Ok(None) => Ok(TraitItem::Verbatim(kept_tokens(Rule::TRAIT_ITEM, &start, input)?)),
             Err(refusal) => Err(refusal),
@@ -187,14 +187,11 @@ impl Read for TraitItem {
     }
 }
 
-/// A member of a trait, behind its attributes; `None` where it is kept as its tokens.
+/// A member of a trait, after its attributes; `None` where it is kept verbatim.
 #[tactic(auto, using(crate::proofs::TraitPlans::marked_kept, crate::proofs::TraitPlans::type_read, crate::proofs::TraitPlans::type_refused, crate::proofs::TraitPlans::function_read, crate::proofs::TraitPlans::function_refused, crate::proofs::TraitPlans::const_follows, crate::proofs::TraitPlans::self_refused, crate::proofs::TraitPlans::macro_read, crate::proofs::TraitPlans::macro_refused))]
-fn trait_item_behind(
-    attrs: Vec<Attribute>,
-    input: &mut ParseBuffer<'_>,
-) -> Parsed<Option<TraitItem>>
+fn trait_item_after(attrs: Vec<Attribute>, input: &mut ParseBuffer<'_>) -> Parsed<Option<TraitItem>>
     requires outer { all_attributes_syntax attrs.items ≡ attributes_syntax attrs.items }
-    ensures follows { (ts : Stream) → Follows IsSyntax syntax_of_TraitItem rules.kept_trait_item ts (run_plan (trait_item_plan_behind (attributes_syntax attrs.items)) rules.kept_trait_item ts input.old) result input.new }
+    ensures follows { (ts : Stream) → Follows IsSyntax syntax_of_TraitItem rules.kept_trait_item ts (run_plan (trait_item_plan_after (attributes_syntax attrs.items)) rules.kept_trait_item ts input.old) result input.new }
 {
     if at_marked(input) {
         return Ok(None);
@@ -214,14 +211,14 @@ fn trait_item_behind(
     Ok(Some(TraitItem::Macro(trait_macro(attrs, input)?)))
 }
 
-/// Whether a visibility or `default` stands next.
+/// Whether a visibility or `default` is next.
 fn at_marked(input: &ParseBuffer<'_>) -> bool
     ensures { result ≡ marked_next input.now }
 {
     input.peek::<Pub>() || at_empty_group(input) || input.peek::<Default>()
 }
 
-/// A constant of a trait, behind its attributes; `None` where it is kept as its tokens: with generics or with a where clause.
+/// A constant of a trait, after its attributes; `None` where it is kept verbatim: with generics or with a where clause.
 #[tactic(auto, using(crate::proofs::TraitPlans::generics_kept, crate::proofs::TraitPlans::clause_kept), unfolding(syn_grammar::specs::MemberPlans::trait_const_plan))]
 fn trait_const(attrs: Vec<Attribute>, input: &mut ParseBuffer<'_>) -> Parsed<Option<TraitItem>>
     ensures follows { (ts : Stream) → Follows IsSyntax syntax_of_TraitItem rules.kept_trait_item ts (run_plan (trait_const_or_kept (attributes_syntax attrs.items)) rules.kept_trait_item ts input.old) result input.new }
@@ -233,7 +230,7 @@ fn trait_const(attrs: Vec<Attribute>, input: &mut ParseBuffer<'_>) -> Parsed<Opt
     }
     let colon_token = input.read()?;
     let ty = input.read()?;
-    let default = behind_equals(input)?;
+    let default = after_equals(input)?;
     if !input.peek::<Semi>() {
         return Ok(None);
     }
@@ -250,7 +247,7 @@ fn trait_const(attrs: Vec<Attribute>, input: &mut ParseBuffer<'_>) -> Parsed<Opt
     })))
 }
 
-/// Attributes, `const`, a name or `_`, `:`, a type, perhaps a value behind `=`, and `;`.
+/// Attributes, `const`, a name or `_`, `:`, a type, perhaps a value after `=`, and `;`.
 impl Read for TraitItemConst {
     ghost form = { of (rule rules.trait_const) };
 
@@ -266,7 +263,7 @@ impl Read for TraitItemConst {
             generics: Generics::empty(input.alloc()),
             colon_token: input.read()?,
             ty: input.read()?,
-            default: behind_equals(input)?,
+            default: after_equals(input)?,
             semi_token: input.read()?,
         })
     }
@@ -285,7 +282,7 @@ impl Read for TraitItemFn {
     }
 }
 
-/// A function of a trait, behind its attributes.
+/// A function of a trait, after its attributes.
 #[tactic(auto, using(syn_grammar::proofs::Each::bare_trait_function_is))]
 fn trait_function(attrs: Vec<Attribute>, input: &mut ParseBuffer<'_>) -> Parsed<TraitItemFn>
     requires outer { all_attributes_syntax attrs.items ≡ attributes_syntax attrs.items }
@@ -293,11 +290,11 @@ fn trait_function(attrs: Vec<Attribute>, input: &mut ParseBuffer<'_>) -> Parsed<
     ensures moved { Moved input.old result input.new }
 {
     let sig = input.read()?;
-    behind_trait_signature(attrs, sig, input)
+    after_trait_signature(attrs, sig, input)
 }
 
-/// The same, behind its signature.
-fn behind_trait_signature(
+/// The same, after its signature.
+fn after_trait_signature(
     attrs: Vec<Attribute>,
     sig: Signature,
     input: &mut ParseBuffer<'_>,
@@ -316,7 +313,7 @@ fn behind_trait_signature(
     })
 }
 
-/// `;` or a body, behind a signature; and these attributes, with those in the body.
+/// `;` or a body, after a signature; and these attributes, with those in the body.
 fn trait_function_end(
     attrs: Vec<Attribute>,
     input: &mut ParseBuffer<'_>,
@@ -332,7 +329,7 @@ fn trait_function_end(
     Ok((attrs, Some(block), None))
 }
 
-/// Attributes, `type`, a name, generics, bounds behind a colon, perhaps a type behind `=`, a where clause and `;`.
+/// Attributes, `type`, a name, generics, bounds after a colon, perhaps a type after `=`, a where clause and `;`.
 impl Read for TraitItemType {
     ghost form = { of (rule rules.trait_type) };
 
@@ -345,7 +342,7 @@ impl Read for TraitItemType {
     }
 }
 
-/// A type of a trait, behind its attributes.
+/// A type of a trait, after its attributes.
 #[tactic(auto, using(syn_grammar::proofs::Each::bare_trait_type_is))]
 fn trait_type(attrs: Vec<Attribute>, input: &mut ParseBuffer<'_>) -> Parsed<TraitItemType>
     ensures reads { Computes IsSyntax itself (wrap (Both (attributes_syntax attrs.items)) (parse_rule rules.bare_trait_type input.old)) result input.new }
@@ -355,7 +352,7 @@ fn trait_type(attrs: Vec<Attribute>, input: &mut ParseBuffer<'_>) -> Parsed<Trai
     let ident = input.read()?;
     let generics = Generics::read_params(input)?;
     let (colon_token, bounds) = colon_and_type_bounds(input)?;
-    let default = behind_equals(input)?;
+    let default = after_equals(input)?;
     let where_clause = where_clause(input)?;
     Ok(TraitItemType {
         attrs,
@@ -383,7 +380,7 @@ impl Read for TraitItemMacro {
     }
 }
 
-/// A macro in a trait, behind its attributes.
+/// A macro in a trait, after its attributes.
 fn trait_macro(attrs: Vec<Attribute>, input: &mut ParseBuffer<'_>) -> Parsed<TraitItemMacro>
     ensures reads { Computes IsSyntax itself (wrap (Both (attributes_syntax attrs.items)) (parse_rule rules.member_macro input.old)) result input.new }
     ensures moved { Moved input.old result input.new }

@@ -1,4 +1,4 @@
-//! Parsers of uses and their trees. A tree holds trees: each parser is told what reads one inside, and the knot at the end closes the
+//! Parsers of uses and their trees. A tree holds trees: each parser is given a parser for a nested one, and the knot at the end closes the
 //! circle.
 ghost use Rattle.std.specs.Prelude.{◌≡◌, ◌∷◌, [], None, false, true};
 ghost use Rattle.syn_grammar.specs.Rules as rules;
@@ -36,7 +36,7 @@ use syn_tree::restriction::Visibility;
 
 /// Attributes, a visibility, `use`, a tree with `::` before it or without it, and `;`.
 ///
-/// A use of trees in braces of which one has `::` before it is refused behind the braces: it is no such item, but kept as its tokens.
+/// A use of trees in braces of which one has `::` before it is refused after the braces: it is no such item, but kept verbatim.
 impl Read for ItemUse {
     ghost form = { of (rule rules.use_item) };
 
@@ -49,7 +49,7 @@ impl Read for ItemUse {
     }
 }
 
-/// A use behind its attributes.
+/// A use after its attributes.
 #[tactic(auto, using(crate::proofs::Uses::visibility_refused))]
 pub(crate) fn use_rest(attrs: Vec<Attribute>, input: &mut ParseBuffer<'_>) -> Parsed<ItemUse>
     ensures reads { Computes IsSyntax itself (wrap (Both (attributes_syntax attrs.items)) (parse_rule rules.use_item_rest input.old)) result input.new }
@@ -59,7 +59,7 @@ pub(crate) fn use_rest(attrs: Vec<Attribute>, input: &mut ParseBuffer<'_>) -> Pa
     use_item(attrs, vis, input)
 }
 
-/// A use behind its visibility.
+/// A use after its visibility.
 pub(crate) fn use_item(
     attrs: Vec<Attribute>,
     vis: Visibility,
@@ -105,7 +105,7 @@ fn plain_tree(input: &mut ParseBuffer<'_>) -> Parsed<UseTree>
     Ok(input.read()?)
 }
 
-/// Trees in braces behind `use`: none of them has `::` before it.
+/// Trees in braces after `use`: none of them has `::` before it.
 #[tactic(auto, using(crate::proofs::Uses::braced_trees))]
 fn braced(input: &mut ParseBuffer<'_>) -> Parsed<UseTree>
     requires next { sees table.at_brace input.old ≡ true }
@@ -123,8 +123,8 @@ fn braced(input: &mut ParseBuffer<'_>) -> Parsed<UseTree>
     }
 }
 
-/// Why trees in braces aren't read as such trees: what stands in the braces; or what stands behind them, where they are read once `::` may
-/// stand before each.
+/// Why trees in braces aren't read as such trees: what is in the braces; or what follows them, if they are read once `::` may
+/// are before each.
 fn fault_in_braces(input: &mut ParseBuffer<'_>) -> Refusal {
     match rooted_group(input) {
         Ok(()) => input.refusal("unexpected token"),
@@ -229,7 +229,7 @@ fn trees<N: NestedTree>(
     punctuated_list::<End, Comma, _, _>(input, |next| nested.tree(next))
 }
 
-/// A name, `self`, `super`, `crate` or `try`, with `::` and a tree behind it, with `as` and a name or `_`, or alone.
+/// A name, `self`, `super`, `crate` or `try`, followed by `::` and a tree, with `as` and a name or `_`, or alone.
 fn by_word<N: NestedTree>(nested: &N, input: &mut ParseBuffer<'_>) -> Parsed<UseTree>
     requires { MayBelow N.may nested.now input.old }
     ensures reads { Computes IsSyntax syntax_of_UseTree (wrap Node (wrap Right (wrap Right (parse_form word_form input.old)))) result input.new }
@@ -263,7 +263,7 @@ fn boxed<N: NestedTree>(nested: &N, input: &mut ParseBuffer<'_>) -> Parsed<Box<U
     Ok(Box::new(input.alloc(), tree)?)
 }
 
-/// What stands behind `as`: a name or `_`. Where none stands, the fault is `expected identifier or underscore`.
+/// What follows `as`: a name or `_`. If neither is next, the fault is `expected identifier or underscore`.
 fn other_name(input: &mut ParseBuffer<'_>) -> Parsed<Ident>
     ensures reads { Computes IsSyntax syntax_of_ident (take_token (name_kind (w_underscore ∷ [])) input.old) result input.new }
     ensures moved { Moved input.old result input.new }
@@ -281,7 +281,7 @@ fn other_name(input: &mut ParseBuffer<'_>) -> Parsed<Ident>
 /// How many KiB of stack are left, and what carries a refusal.
 type Inside<E> = (u32, PhantomData<E>);
 
-/// The function that reads a nested tree, and what it is told.
+/// The function that parses a nested tree, and the stack that is left for it.
 #[derive(Drop)]
 struct Knot<E, T> {
     tree: T,
@@ -323,9 +323,9 @@ fn nested_tree<E: Carrier>(
     }
 }
 
-/// `*`; trees in braces; or a name, `self`, `super`, `crate` or `try`, with `::` and a tree behind it, with `as` and a name or `_`, or alone.
+/// `*`; trees in braces; or a name, `self`, `super`, `crate` or `try`, followed by `::` and a tree, with `as` and a name or `_`, or alone.
 ///
-/// Where neither a name nor `_` stands behind `as`, the fault is `expected identifier or underscore`. What is nested too deep for the stack
+/// Where neither a name nor `_` follows `as`, the fault is `expected identifier or underscore`. What is nested too deep for the stack
 /// is refused as memory is.
 impl Read for UseTree {
     ghost form = { of (rule rules.use_tree) };

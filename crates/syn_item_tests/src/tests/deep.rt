@@ -1,4 +1,4 @@
-//! Items that are many, or that stand deep in each other.
+//! Items that are many, or that are deeply nested.
 use crate::tests::support::{part, value};
 use std::alloc::Global;
 use std::process::Abort;
@@ -15,7 +15,7 @@ fn repeated(rt: &impl Abort, alloc: Global, text: &str, count: usize) -> String 
     all
 }
 
-/// One text behind another, and a third behind both.
+/// One text after another, and a third after both.
 fn around(rt: &impl Abort, alloc: Global, open: &str, content: &str, close: &str) -> String {
     let mut text = String::new(alloc);
     for part in [open, content, close] {
@@ -24,7 +24,7 @@ fn around(rt: &impl Abort, alloc: Global, open: &str, content: &str, close: &str
     text
 }
 
-/// Functions that are kept as their tokens, each in the type of another one's parameter: each is read once more, and not twice as often as
+/// Functions that are kept verbatim, each in the type of another one's parameter: each is read once more, and not twice as often as
 /// the one around it.
 #[test]
 fn kept_in_types(rt: HostRuntime) {

@@ -24,7 +24,7 @@ fn function(rt: &impl Abort, alloc: Global, body: &str, is_default: bool) -> Ite
     }
 }
 
-/// Inner attributes stand in the braces. Modifiers are not printed.
+/// Inner attributes are in the braces. Modifiers are not printed.
 #[test]
 fn whole(rt: HostRuntime) {
     let alloc = rt.alloc();

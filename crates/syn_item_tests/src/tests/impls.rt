@@ -82,7 +82,7 @@ fn members(rt: &impl Abort, alloc: Global) -> Vec<ImplItem> {
     items
 }
 
-/// `default`, `const` and `unsafe` stand before `impl`, `!` behind the generics, and the where clause before the braces.
+/// `default`, `const` and `unsafe` are before `impl`, `!` after the generics, and the where clause before the braces.
 #[test]
 fn whole(rt: HostRuntime) {
     let alloc = rt.alloc();

@@ -49,7 +49,7 @@ fn item(rt: HostRuntime) {
     }
 }
 
-/// What is kept as tokens keeps their spacing.
+/// What is kept verbatim keeps their spacing.
 #[test]
 fn spacing(rt: HostRuntime) {
     let alloc = rt.alloc();

@@ -36,7 +36,7 @@ fn function(rt: HostRuntime) {
     assert!(rt; sig.variadic.is_none());
 }
 
-/// Where a parameter without a name begins, its `_` and its `:` stand.
+/// Where a parameter without a name begins, its `_` and its `:` are.
 #[test]
 fn nameless_parameter(rt: HostRuntime) {
     let sig: Signature = part(&rt, rt.alloc(), "fn f( #[a] A<B>)");
@@ -84,7 +84,7 @@ fn receiver_of_signature(rt: HostRuntime) {
     assert!(rt; sig.receiver().is_none());
 }
 
-/// A where clause stands before `=` or behind the type; where there is none, its place is before it.
+/// A where clause is before `=` or after the type; where there is none, its place is before it.
 #[test]
 fn placement(rt: HostRuntime) {
     let alloc = rt.alloc();
@@ -99,7 +99,7 @@ fn placement(rt: HostRuntime) {
     assert!(rt; none.generics.where_clause.is_none());
 }
 
-/// A module has the inner attributes behind the outer ones, and either braces or a semicolon.
+/// A module has the inner attributes after the outer ones, and either braces or a semicolon.
 #[test]
 fn modules(rt: HostRuntime) {
     let alloc = rt.alloc();
@@ -126,7 +126,7 @@ fn unsafe_only(rt: &impl Abort, alloc: Global, text: &str) -> (Safety, bool) {
     (safety, !input.is_empty())
 }
 
-/// `safe` and `unsafe` are read where they stand next, and else nothing.
+/// `safe` and `unsafe` are read where they are next, and else nothing.
 #[test]
 fn safe_or_unsafe(rt: HostRuntime) {
     let alloc = rt.alloc();
@@ -138,7 +138,7 @@ fn safe_or_unsafe(rt: HostRuntime) {
     assert!(rt; matches!(wrapped.0, Safety::Safe(_)));
 }
 
-/// `unsafe` alone is read where it stands next, and else nothing.
+/// `unsafe` alone is read where it is next, and else nothing.
 #[test]
 fn only_unsafe(rt: HostRuntime) {
     let alloc = rt.alloc();
@@ -183,7 +183,7 @@ fn assert_words<T: Parse + Drop>(rt: &impl Abort, alloc: Global, text: &str, wan
     }
 }
 
-/// What is said where it tells more than that something is unexpected.
+/// The message, if it says more than that something is unexpected.
 #[test]
 fn words(rt: HostRuntime) {
     let alloc = rt.alloc();
@@ -217,7 +217,7 @@ fn conversions(rt: HostRuntime) {
     assert!(rt; matches!(FnArg::from(receiver), FnArg::Receiver(_)));
 }
 
-/// Trees of a use may stand so deep in each other, and one more is refused where it begins.
+/// Trees of a use may be nested so deep, and one more is refused where it begins.
 #[test]
 fn deep_uses(rt: HostRuntime) {
     let alloc = rt.alloc();

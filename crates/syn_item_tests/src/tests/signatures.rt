@@ -45,7 +45,7 @@ fn reference(rt: &impl Abort, alloc: Global) -> ReceiverKind {
     )
 }
 
-/// A list of one parameter, without a comma behind it.
+/// A list of one parameter, without a comma after it.
 fn one_input(rt: &impl Abort, alloc: Global) -> Punctuated<FnArg, Comma> {
     let mut inputs = Punctuated::new(alloc);
     let pushed = inputs.push_value(typed(rt, alloc, "a", "u8"));
@@ -78,7 +78,7 @@ pub fn signature(
     }
 }
 
-/// `...`, with a comma behind it.
+/// `...`, followed by a comma.
 fn variadic(rt: &impl Abort, alloc: Global) -> Variadic {
     Variadic {
         attrs: Vec::new(alloc),
@@ -88,7 +88,7 @@ fn variadic(rt: &impl Abort, alloc: Global) -> Variadic {
     }
 }
 
-/// The where clause stands behind the return type.
+/// The where clause follows the return type.
 #[test]
 fn whole(rt: HostRuntime) {
     let alloc = rt.alloc();

@@ -79,7 +79,7 @@ fn alias(
     }
 }
 
-/// The where clause stands where its placement says, and the placement counts where there is none.
+/// The where clause is printed where its placement says, and the placement counts where there is none.
 #[test]
 fn type_aliases(rt: HostRuntime) {
     let alloc = rt.alloc();
@@ -142,7 +142,7 @@ fn module(
     }
 }
 
-/// A semicolon stands behind the name alone, and inner attributes in the braces alone.
+/// A semicolon follows the name alone, and inner attributes in the braces alone.
 #[test]
 fn modules(rt: HostRuntime) {
     let alloc = rt.alloc();
@@ -157,7 +157,7 @@ fn modules(rt: HostRuntime) {
     assert_differ(&rt, one, other);
 }
 
-/// A name stands between `!` and the group.
+/// A name is between `!` and the group.
 #[test]
 fn macros(rt: HostRuntime) {
     let alloc = rt.alloc();
@@ -170,7 +170,7 @@ fn macros(rt: HostRuntime) {
     assert_tree(&rt, alloc, named, "macro_rules ! m ( a => b ) ;");
 }
 
-/// Bounds, and a where clause behind them.
+/// Bounds, and a where clause after them.
 #[test]
 fn trait_aliases(rt: HostRuntime) {
     let alloc = rt.alloc();

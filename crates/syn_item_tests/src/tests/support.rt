@@ -1,6 +1,6 @@
 //! Parts of items, made of texts, and what is asserted of the items.
 //!
-//! A test answers nothing: it takes its parts by `part`, which fails it where they are refused.
+//! A test returns nothing: it takes its parts by `part`, which fails it where they are refused.
 use std::alloc::Global;
 use std::process::Abort;
 use syn_lower::{Attribute, Generics, WhereClause};
@@ -17,7 +17,7 @@ use syn_tokens::syntactic::try_clone::TryClone;
 use syn_tokens::token::Brace;
 use syn_whole::parse::parse2;
 
-/// What the answer holds.
+/// What the result holds.
 pub fn value<T: Drop>(rt: &impl Abort, answer: Result<T>) -> T {
     match answer {
         Ok(value) => value,
@@ -66,7 +66,7 @@ pub fn items(rt: &impl Abort, alloc: Global, text: &str) -> DeferredItems {
     }
 }
 
-/// Braces, wherever they stand.
+/// Braces, spans aside.
 pub fn braces() -> Brace {
     Brace::new(Span::call_site(), Span::call_site())
 }

@@ -77,7 +77,7 @@ fn alias(
     }
 }
 
-/// A semicolon stands where there is no body alone, and inner attributes in the body alone.
+/// A semicolon is printed only without a body, and inner attributes in the body alone.
 #[test]
 fn functions(rt: HostRuntime) {
     let alloc = rt.alloc();
@@ -118,7 +118,7 @@ fn members(rt: &impl Abort, alloc: Global) -> Vec<TraitItem> {
     items
 }
 
-/// `unsafe` stands before `auto`, and behind `const`.
+/// `unsafe` is before `auto`, and after `const`.
 #[test]
 fn whole(rt: HostRuntime) {
     let alloc = rt.alloc();

@@ -24,7 +24,7 @@ fn renamed(rt: &impl Abort, alloc: Global, from: &str, to: &str) -> UseTree {
     })
 }
 
-/// A word, and a tree behind it.
+/// A word, and a tree after it.
 fn path(rt: &impl Abort, alloc: Global, text: &str, tree: UseTree) -> UseTree {
     let boxed = Box::new(alloc, tree).map_err(|_| Error::memory());
     UseTree::Path(UsePath {
@@ -74,7 +74,7 @@ fn item(rt: &impl Abort, alloc: Global, leading_colon: Option<PathSep>, tree: Us
     }
 }
 
-/// Trees of every kind, in each other.
+/// Trees of every kind, nested.
 #[test]
 fn trees(rt: HostRuntime) {
     let alloc = rt.alloc();

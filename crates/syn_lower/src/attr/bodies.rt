@@ -1,4 +1,4 @@
-//! Prints of the attributes of what has a body: outer ones stand before it, and inner ones in its braces.
+//! Prints of the attributes of what has a body: outer ones are before it, and inner ones in its braces.
 ghost use Rattle.std.specs.Prelude.{◌≡◌, OnOk};
 ghost use Rattle.syn_grammar.specs.Grammar.{print};
 ghost use Rattle.syn_tokens.specs.Building.{added};

@@ -28,7 +28,7 @@ use syn_tokens::token::{
     Brace, Bracket, DelimiterKind, Delimiters, Eq, Not, Paren, PathSep, Pound, Unsafe, kind,
 };
 
-/// What stands behind the path of a meta.
+/// What follows the path of a meta.
 #[derive(Drop)]
 enum MetaValue {
     Group(MacroDelimiter, TokenStream),
@@ -37,10 +37,10 @@ enum MetaValue {
 }
 
 impl Attribute {
-    /// Parses outer attributes, as long as `#` stands next. They may be none.
+    /// Parses outer attributes, while `#` is next. They may be none.
     ///
-    /// Where something else than an outer attribute stands behind a `#`, or memory is refused, the buffer stands where it
-    /// stood.
+    /// If something else than an outer attribute follows a `#`, or memory is refused, the buffer is
+    /// unchanged.
     #[tactic(auto, using(syn_parse::proofs::Refused::refused_by_syntax))]
     pub fn parse_outer(input: &mut ParseBuffer<'_>) -> Result<Vec<Attribute>>
         ensures outcome { Outcome IsSyntaxError (λ v. attributes_syntax v.items) (rule rules.attributes) input.old result input.new }
@@ -54,9 +54,9 @@ impl Attribute {
         Ok(attrs)
     }
 
-    /// Parses inner attributes, as long as `#` stands next and `!` behind it. They may be none.
+    /// Parses inner attributes, while `#` is next, followed by `!`. They may be none.
     ///
-    /// Where no attribute's brackets stand behind these, or memory is refused, the buffer stands where it stood.
+    /// Where no attribute's brackets follow these, or memory is refused, the buffer is unchanged.
     #[tactic(auto, using(syn_parse::proofs::Refused::refused_by_syntax))]
     pub fn parse_inner(input: &mut ParseBuffer<'_>) -> Result<Vec<Attribute>>
         ensures outcome { Outcome IsSyntaxError (λ v. inner_attributes_syntax v.items) (rule rules.inner_attributes) input.old result input.new }
@@ -71,7 +71,7 @@ impl Attribute {
     }
 }
 
-/// Outer attributes, as long as `#` stands next.
+/// Outer attributes, while `#` is next.
 #[tactic(auto, using(crate::proofs::AttributeLists::outer_refused))]
 pub fn outer_attributes(input: &mut ParseBuffer<'_>) -> Parsed<Vec<Attribute>>
     ensures reads { Computes IsSyntax (λ v. attributes_syntax v.items) (parse_rule rules.attributes input.old) result input.new }
@@ -94,7 +94,7 @@ pub fn all_outer_attributes(input: &mut ParseBuffer<'_>) -> Parsed<Vec<Attribute
     outer_attributes(input)
 }
 
-/// Inner attributes, as long as `#` stands next and `!` behind it.
+/// Inner attributes, while `#` is next, followed by `!`.
 #[tactic(auto, using(crate::proofs::AttributeLists::inner_refused))]
 pub fn inner_attributes(input: &mut ParseBuffer<'_>) -> Parsed<Vec<Attribute>>
     ensures reads { Computes IsSyntax (λ v. inner_attributes_syntax v.items) (parse_rule rules.inner_attributes input.old) result input.new }

@@ -11,7 +11,7 @@ impl TryClone for Attribute {
     fn try_clone(&self, alloc: Global) -> Result<Attribute> {
         Ok(Attribute {
             pound_token: self.pound_token,
-            style: self.style.try_clone(alloc)?,
+            style: self.style,
             bracket_token: self.bracket_token,
             meta: self.meta.try_clone(alloc)?,
         })
@@ -20,10 +20,7 @@ impl TryClone for Attribute {
 
 impl TryClone for AttrStyle {
     fn try_clone(&self, _alloc: Global) -> Result<AttrStyle> {
-        match self {
-            AttrStyle::Outer => Ok(AttrStyle::Outer),
-            AttrStyle::Inner(value) => Ok(AttrStyle::Inner(*value)),
-        }
+        Ok(*self)
     }
 }
 
@@ -41,7 +38,7 @@ impl TryClone for MetaList {
     fn try_clone(&self, alloc: Global) -> Result<MetaList> {
         Ok(MetaList {
             path: self.path.try_clone(alloc)?,
-            delimiter: self.delimiter.try_clone(alloc)?,
+            delimiter: self.delimiter,
             tokens: self.tokens.try_clone(alloc)?,
         })
     }
@@ -59,10 +56,6 @@ impl TryClone for MetaNameValue {
 
 impl TryClone for MacroDelimiter {
     fn try_clone(&self, _alloc: Global) -> Result<MacroDelimiter> {
-        match self {
-            MacroDelimiter::Paren(value) => Ok(MacroDelimiter::Paren(*value)),
-            MacroDelimiter::Brace(value) => Ok(MacroDelimiter::Brace(*value)),
-            MacroDelimiter::Bracket(value) => Ok(MacroDelimiter::Bracket(*value)),
-        }
+        Ok(*self)
     }
 }

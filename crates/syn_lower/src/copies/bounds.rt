@@ -33,7 +33,7 @@ impl TryClone for TraitBound {
     fn try_clone(&self, alloc: Global) -> Result<TraitBound> {
         Ok(TraitBound {
             paren_token: self.paren_token,
-            modifier: self.modifier.try_clone(alloc)?,
+            modifier: self.modifier,
             lifetimes: self.lifetimes.try_clone(alloc)?,
             path: self.path.try_clone(alloc)?,
         })
@@ -42,9 +42,6 @@ impl TryClone for TraitBound {
 
 impl TryClone for TraitBoundModifier {
     fn try_clone(&self, _alloc: Global) -> Result<TraitBoundModifier> {
-        match self {
-            TraitBoundModifier::None => Ok(TraitBoundModifier::None),
-            TraitBoundModifier::Maybe(value) => Ok(TraitBoundModifier::Maybe(*value)),
-        }
+        Ok(*self)
     }
 }

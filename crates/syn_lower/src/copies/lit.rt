@@ -17,7 +17,7 @@ impl TryClone for Lit {
             Lit::Char(value) => Ok(Lit::Char(value.try_clone(alloc)?)),
             Lit::Int(value) => Ok(Lit::Int(value.try_clone(alloc)?)),
             Lit::Float(value) => Ok(Lit::Float(value.try_clone(alloc)?)),
-            Lit::Bool(value) => Ok(Lit::Bool(value.try_clone(alloc)?)),
+            Lit::Bool(value) => Ok(Lit::Bool(*value)),
         }
     }
 }

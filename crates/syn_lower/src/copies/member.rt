@@ -11,16 +11,13 @@ impl TryClone for Member {
     fn try_clone(&self, alloc: Global) -> Result<Member> {
         match self {
             Member::Named(value) => Ok(Member::Named(value.try_clone(alloc)?)),
-            Member::Unnamed(value) => Ok(Member::Unnamed(value.try_clone(alloc)?)),
+            Member::Unnamed(value) => Ok(Member::Unnamed(*value)),
         }
     }
 }
 
 impl TryClone for Index {
     fn try_clone(&self, _alloc: Global) -> Result<Index> {
-        Ok(Index {
-            index: self.index,
-            span: self.span,
-        })
+        Ok(*self)
     }
 }

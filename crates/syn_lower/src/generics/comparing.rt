@@ -4,7 +4,7 @@ ghost use Rattle.syn_grammar.specs.Same.{same_bool, same_syntax};
 ghost use Rattle.syn_tokens.specs.InOrder.{in_order};
 ghost use Rattle.syn_tokens.specs.Kinds.{comma_syntax};
 ghost use Rattle.syn_tokens.specs.Listing.{list_of};
-ghost use Rattle.syn_lower.specs.Generics.{GtStands, LtStands, as_row, clause_of, param_of, stands, syntax_of_GenericParam};
+ghost use Rattle.syn_lower.specs.Generics.{GtPresent, LtPresent, as_row, clause_of, param_of, stands, syntax_of_GenericParam};
 ghost use Rattle.syn_lower.specs.Parts.{first};
 
 use crate::{ConstParam, GenericParam, Generics, LifetimeParam, TypeParam, WhereClause};
@@ -50,7 +50,7 @@ impl Compared for ConstParam {
     }
 }
 
-/// A type and a constant are told apart by what stands behind their attributes.
+/// A type and a constant are distinguished by what follows their attributes.
 impl Compared for GenericParam {
     #[tactic(auto, using(syn_grammar::proofs::Same::and_false))]
     fn is_same(&self, other: &GenericParam) -> bool {
@@ -123,8 +123,8 @@ impl Generics {
 /// Whether both have a `<`, or neither has one.
 fn both_have_lt(lt_token: Option<Lt>, other: Option<Lt>) -> bool
     ensures same { result ≡ same_bool (stands lt_token) (stands other) }
-    ensures one { LtStands lt_token }
-    ensures other { LtStands other }
+    ensures one { LtPresent lt_token }
+    ensures other { LtPresent other }
 {
     match (lt_token, other) {
         (Some(_), Some(_)) | (None, None) => true,
@@ -135,8 +135,8 @@ fn both_have_lt(lt_token: Option<Lt>, other: Option<Lt>) -> bool
 /// Whether both have a `>`, or neither has one.
 fn both_have_gt(gt_token: Option<Gt>, other: Option<Gt>) -> bool
     ensures same { result ≡ same_bool (stands gt_token) (stands other) }
-    ensures one { GtStands gt_token }
-    ensures other { GtStands other }
+    ensures one { GtPresent gt_token }
+    ensures other { GtPresent other }
 {
     match (gt_token, other) {
         (Some(_), Some(_)) | (None, None) => true,

@@ -10,7 +10,7 @@ ghost use Rattle.syn_tokens.specs.Kinds.{comma_syntax, eq_syntax};
 ghost use Rattle.syn_tokens.specs.Leaves.{maybe};
 ghost use Rattle.syn_lower.specs.Attributes.{attributes_syntax};
 ghost use Rattle.syn_lower.specs.Generics.{as_row, bounds_syntax, default_of, lifetime_bounds_syntax, syntax_of_GenericParam};
-ghost use Rattle.syn_lower.specs.Parameters.{bounds_form, const_behind, lifetime_behind, lifetime_bounds_form, read_parameters, type_behind};
+ghost use Rattle.syn_lower.specs.Parameters.{bounds_form, const_after, lifetime_after, lifetime_bounds_form, read_parameters, type_after};
 ghost use Rattle.syn_lower.specs.Parsing.{of, rule, meaning_of_rule, parse_rule, parse_form, Computes, Moved, Kept, itself, IsSyntax, list_of};
 ghost use Rattle.syn_lower.specs.Parts.{first};
 
@@ -26,7 +26,7 @@ use syn_tokens::lifetime::Lifetime;
 use syn_tokens::punctuated::Punctuated;
 use syn_tokens::token::{Colon, Comma, Const, Eq, Gt, Lt, Plus};
 
-/// Attributes, a lifetime, and perhaps lifetimes behind a colon.
+/// Attributes, a lifetime, and perhaps lifetimes after a colon.
 impl Read for LifetimeParam {
     ghost form = { of (rule rules.lifetime_parameter) };
 
@@ -58,10 +58,10 @@ impl Read for GenericParam {
     }
 }
 
-/// A lifetime with these attributes, and perhaps lifetimes behind a colon.
-#[tactic(auto, unfolding(crate::specs::Parameters::lifetime_behind))]
+/// A lifetime with these attributes, and perhaps lifetimes after a colon.
+#[tactic(auto, unfolding(crate::specs::Parameters::lifetime_after))]
 fn lifetime_param(attrs: Vec<Attribute>, input: &mut ParseBuffer<'_>) -> Parsed<LifetimeParam>
-    ensures reads { Computes IsSyntax itself (lifetime_behind (attributes_syntax attrs.items) input.old) result input.new }
+    ensures reads { Computes IsSyntax itself (lifetime_after (attributes_syntax attrs.items) input.old) result input.new }
     ensures moved { Moved input.old result input.new }
 {
     let lifetime = input.read()?;
@@ -89,9 +89,9 @@ fn lifetime_bounds(
 }
 
 /// `const`, a name, a colon, a type, and perhaps a default, with these attributes.
-#[tactic(auto, unfolding(crate::specs::Parameters::const_behind))]
+#[tactic(auto, unfolding(crate::specs::Parameters::const_after))]
 fn const_param(attrs: Vec<Attribute>, input: &mut ParseBuffer<'_>) -> Parsed<ConstParam>
-    ensures reads { Computes IsSyntax itself (const_behind (attributes_syntax attrs.items) input.old) result input.new }
+    ensures reads { Computes IsSyntax itself (const_after (attributes_syntax attrs.items) input.old) result input.new }
     ensures moved { Moved input.old result input.new }
 {
     let const_token = input.read()?;
@@ -111,9 +111,9 @@ fn const_param(attrs: Vec<Attribute>, input: &mut ParseBuffer<'_>) -> Parsed<Con
 }
 
 /// A name, and perhaps bounds and a default, with these attributes.
-#[tactic(auto, unfolding(crate::specs::Parameters::type_behind))]
+#[tactic(auto, unfolding(crate::specs::Parameters::type_after))]
 fn type_param(attrs: Vec<Attribute>, input: &mut ParseBuffer<'_>) -> Parsed<TypeParam>
-    ensures reads { Computes IsSyntax itself (type_behind (attributes_syntax attrs.items) input.old) result input.new }
+    ensures reads { Computes IsSyntax itself (type_after (attributes_syntax attrs.items) input.old) result input.new }
     ensures moved { Moved input.old result input.new }
 {
     let ident = input.read()?;
@@ -156,7 +156,7 @@ fn default_value<T: Read>(input: &mut ParseBuffer<'_>) -> Parsed<(Option<Eq>, Op
     }
 }
 
-/// Parameters in `< >` where `<` stands next, or none; no where clause.
+/// Parameters in `< >` if `<` is next, or none; no where clause.
 impl Read for Generics {
     ghost form = { of (rule rules.generics & unshown) };
 
@@ -170,7 +170,7 @@ impl Read for Generics {
 }
 
 impl Generics {
-    /// Parameters in `< >` where `<` stands next, or none; no where clause.
+    /// Parameters in `< >` if `<` is next, or none; no where clause.
     #[tactic(auto, using(syn_grammar::proofs::Each::generics_is))]
     pub fn read_params(input: &mut ParseBuffer<'_>) -> Parsed<Generics>
         ensures reads { Computes IsSyntax first (parse_rule rules.generics input.old) result input.new }
@@ -189,7 +189,7 @@ impl Generics {
     }
 }
 
-/// Parameters up to `>`, separated by commas; the last comma may stand or not.
+/// Parameters up to `>`, separated by commas; the last comma is optional.
 #[tactic(auto, using(crate::proofs::ParameterRows::parameters_are))]
 fn parameters(input: &mut ParseBuffer<'_>) -> Parsed<Punctuated<GenericParam, Comma>>
     ensures reads { Computes IsSyntax (λ l. as_row (list_of syntax_of_GenericParam comma_syntax l.pairs l.last)) (read_parameters input.old) result input.new }

@@ -5,7 +5,7 @@ ghost use Rattle.syn_grammar.specs.Grammar.{print};
 ghost use Rattle.syn_tokens.specs.Building.{added};
 ghost use Rattle.syn_tokens.specs.Kinds.{colon_syntax, plus_syntax};
 ghost use Rattle.syn_tokens.specs.Leaves.{maybe};
-ghost use Rattle.syn_lower.specs.GenericPrints.{behind_last, comma_at, has_others, is_lifetime, pairs_part, param_part, params_part, printed_with};
+ghost use Rattle.syn_lower.specs.GenericPrints.{after_last, comma_at, has_others, is_lifetime, pairs_part, param_part, params_part, printed_with};
 ghost use Rattle.syn_lower.specs.Generics.{clause_of};
 ghost use Rattle.syn_lower.specs.Parts.{first, or_added};
 
@@ -18,7 +18,7 @@ use syn_tokens::span::Span;
 use syn_tokens::stream::builder::StreamBuilder;
 use syn_tokens::token::{Colon, Comma, Plus};
 
-/// What stands before a list, and the list, where it has a member.
+/// What is before a list, and the list, where it has a member.
 #[tactic(auto, using(syn_tokens::proofs::Prints::prints, crate::proofs::GenericPrints::none_printed, crate::proofs::GenericPrints::some_printed))]
 pub(crate) fn print_with<H: Print, T: Print, P: Print>(
     head: &H,
@@ -132,7 +132,7 @@ impl Generics {
     }
 }
 
-/// Lifetimes, each with its comma, and then the others with theirs. Behind a lifetime that stands last a comma is added where
+/// Lifetimes, each with its comma, and then the others with theirs. After a lifetime that is last a comma is added where
 /// others follow.
 #[tactic(auto, using(syn_tokens::proofs::Prints::prints))]
 fn print_ordered(
@@ -191,7 +191,7 @@ fn print_pair(
     print_comma(*comma, out)
 }
 
-/// A comma, where it stands.
+/// A comma, if there is one.
 #[tactic(auto, using(crate::proofs::Ordering::comma_printed))]
 fn print_comma(comma: Comma, out: &mut StreamBuilder) -> Result<(), AllocError>
     ensures prints { OnOk result (out.new ≡ added out.old (comma_at comma)) }
@@ -206,7 +206,7 @@ fn print_comma_before_others(
     pairs: &[(GenericParam, Comma)],
     out: &mut StreamBuilder,
 ) -> Result<(), AllocError>
-    ensures prints { OnOk result (out.new ≡ added out.old (behind_last pairs.now)) }
+    ensures prints { OnOk result (out.new ≡ added out.old (after_last pairs.now)) }
     ensures begins { out.new.before ≡ out.old.before }
 {
     if has_others(pairs) {

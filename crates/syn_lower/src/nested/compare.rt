@@ -16,7 +16,7 @@ pub use ordered::same_ordered;
 pub use qualified::same_qualified;
 use syn_tokens::syntactic::Syntactic;
 
-/// The comparison of types that stand in other trees.
+/// The comparison of types that are in other trees.
 pub trait CompareType {
     /// It may be called for types of this size.
     ghost may: { Self → ℕ → Type 0 };

@@ -19,7 +19,7 @@ use std::alloc::AllocError;
 use syn_tokens::stream::builder::StreamBuilder;
 use syn_tokens::syntactic::Syntactic;
 
-/// The print of a type that stands in another tree.
+/// The print of a type that is in another tree.
 pub trait PrintType {
     /// It may be called for types of this size.
     ghost may: { Self → ℕ → Type 0 };
@@ -31,7 +31,7 @@ pub trait PrintType {
         ensures begins { out.new.before ≡ out.old.before };
 }
 
-/// What is printed with the help of the print of a type: here it stands once what is added.
+/// A print that is given the print of a type. It defines what is added, for all such prints.
 pub trait PrintNested: Syntactic {
     /// As `Print::print_in`.
     fn print_nested<N: PrintType>(

@@ -25,7 +25,7 @@ use syn_tokens::lifetime::Lifetime;
 use syn_tokens::punctuated::Punctuated;
 use syn_tokens::token::{Comma, Gt, Paren, RArrow, kind};
 
-/// The arguments of a word, where they stand next.
+/// The arguments of a word, where they are next.
 pub(super) fn arguments<N: Nested>(nested: &N, input: &mut ParseBuffer<'_>) -> Parsed<PathArguments>
     requires { MayHere N.may nested.now input.old }
     ensures reads { Computes IsSyntax syntax_of_PathArguments (parse_form arguments_form input.old) result input.new }

@@ -9,7 +9,7 @@ ghost use Rattle.syn_tokens.specs.Kinds.{lt_syntax, path_sep_syntax};
 ghost use Rattle.syn_lower.specs.Parsing.{sees, parse_rule, parse_form, Computes, Parses, Moved, MayBelow, itself, IsSyntax, joined_of};
 ghost use Rattle.syn_lower.specs.Paths.{segment_form};
 ghost use Rattle.syn_lower.specs.QualifiedPaths.{syntax_of_TypePath};
-ghost use Rattle.syn_lower.specs.TypeForms.{behind_trait_form, named_word_form, of_qualified, trait_form, word_form};
+ghost use Rattle.syn_lower.specs.TypeForms.{after_trait_form, named_word_form, of_qualified, trait_form, word_form};
 ghost use Rattle.syn_lower.specs.Types.{syntax_of_Type};
 
 use super::Nested;
@@ -77,7 +77,7 @@ fn words<N: Nested>(
     joined_list::<PathSep, _, _>(input, |next| word(nested, next))
 }
 
-/// A word of a path in a type: an identifier or `Self`, with its arguments where they stand next; or `self`, `super` or `crate`.
+/// A word of a path in a type: an identifier or `Self`, with its arguments where they are next; or `self`, `super` or `crate`.
 #[tactic(auto, using(crate::proofs::PathWords::other_word))]
 fn word<N: Nested>(nested: &N, input: &mut ParseBuffer<'_>) -> Parsed<PathSegment>
     requires { MayBelow N.may nested.now input.old }
@@ -93,7 +93,7 @@ fn word<N: Nested>(nested: &N, input: &mut ParseBuffer<'_>) -> Parsed<PathSegmen
     })
 }
 
-/// An identifier or `Self`, with its arguments where they stand next. (It is asked for only where one of these stands next.)
+/// An identifier or `Self`, with its arguments if they are next. (It is called only where one of these is next.)
 #[tactic(auto, using(crate::proofs::PathWords::named_word))]
 fn named_word<N: Nested>(nested: &N, input: &mut ParseBuffer<'_>) -> Parsed<PathSegment>
     requires may { MayBelow N.may nested.now input.old }
@@ -107,7 +107,7 @@ fn named_word<N: Nested>(nested: &N, input: &mut ParseBuffer<'_>) -> Parsed<Path
     })
 }
 
-/// A path as a type: a qualified path where `<` stands next, or a path.
+/// A path as a type: a qualified path if `<` is next, or a path.
 #[tactic(auto, using(syn_grammar::proofs::Each::path_as_type_is))]
 pub(crate) fn path_as_type<N: Nested>(nested: &N, input: &mut ParseBuffer<'_>) -> Parsed<TypePath>
     requires { MayBelow N.may nested.now input.old }
@@ -122,7 +122,7 @@ pub(crate) fn path_as_type<N: Nested>(nested: &N, input: &mut ParseBuffer<'_>) -
     })
 }
 
-/// A type in `< >`, perhaps with `as` and a path behind it; `::` and words.
+/// A type in `< >`, perhaps followed by `as` and a path; `::` and words.
 #[tactic(auto, using(syn_grammar::proofs::Each::qualified_path_is))]
 fn qualified_path<N: Nested>(nested: &N, input: &mut ParseBuffer<'_>) -> Parsed<TypePath>
     requires { MayBelow N.may nested.now input.old }
@@ -138,7 +138,7 @@ fn qualified_path<N: Nested>(nested: &N, input: &mut ParseBuffer<'_>) -> Parsed<
     }
 }
 
-/// What stands behind the type of a qualified path without a trait: `>`, `::` and words.
+/// What follows the type of a qualified path without a trait: `>`, `::` and words.
 fn qualified_alone<N: Nested>(
     lt_token: Lt,
     ty: Box<Type>,
@@ -146,7 +146,7 @@ fn qualified_alone<N: Nested>(
     input: &mut ParseBuffer<'_>,
 ) -> Parsed<TypePath>
     requires { MayBelow N.may nested.now input.old }
-    ensures reads { Computes IsSyntax syntax_of_TypePath (of_qualified (lt_syntax lt_token) (syntax_of_Type ty.value) (and_then (Some (Right (Unshown Nothing), input.old)) (parse_form behind_trait_form))) result input.new }
+    ensures reads { Computes IsSyntax syntax_of_TypePath (of_qualified (lt_syntax lt_token) (syntax_of_Type ty.value) (and_then (Some (Right (Unshown Nothing), input.old)) (parse_form after_trait_form))) result input.new }
     ensures moved { Moved input.old result input.new }
 {
     let qself = QSelf {
@@ -165,7 +165,7 @@ fn qualified_alone<N: Nested>(
     })
 }
 
-/// What stands behind the type of a qualified path with a trait: `as`, the trait's path, `>`, `::` and words.
+/// What follows the type of a qualified path with a trait: `as`, the trait's path, `>`, `::` and words.
 #[tactic(auto, using(syn_grammar::proofs::Each::type_path_is))]
 fn qualified_by_trait<N: Nested>(
     lt_token: Lt,
@@ -174,7 +174,7 @@ fn qualified_by_trait<N: Nested>(
     input: &mut ParseBuffer<'_>,
 ) -> Parsed<TypePath>
     requires { MayBelow N.may nested.now input.old }
-    ensures reads { Computes IsSyntax syntax_of_TypePath (of_qualified (lt_syntax lt_token) (syntax_of_Type ty.value) (and_then (wrap Left (parse_form trait_form input.old)) (parse_form behind_trait_form))) result input.new }
+    ensures reads { Computes IsSyntax syntax_of_TypePath (of_qualified (lt_syntax lt_token) (syntax_of_Type ty.value) (and_then (wrap Left (parse_form trait_form input.old)) (parse_form after_trait_form))) result input.new }
     ensures moved { Moved input.old result input.new }
 {
     let as_token = input.read()?;

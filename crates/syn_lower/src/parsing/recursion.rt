@@ -26,7 +26,7 @@ use syn_parse::read::refusal::{Parsed, Refusal};
 /// How many KiB of stack are left, and what carries a refusal.
 type Inside<E> = (u32, PhantomData<E>);
 
-/// The function that reads a nested type, and what it is told.
+/// The function that parses a nested type, and the stack that is left for it.
 #[derive(Drop)]
 struct Knot<E, T> {
     ty: T,
@@ -78,7 +78,7 @@ impl Read for Type {
     }
 }
 
-/// A path as a type: a qualified path where `<` stands next, or a path.
+/// A path as a type: a qualified path if `<` is next, or a path.
 impl Read for TypePath {
     ghost form = { of (rule rules.path_as_type) };
 

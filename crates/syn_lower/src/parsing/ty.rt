@@ -112,7 +112,7 @@ fn paren_or_tuple(paren_token: Paren, elems: Punctuated<Type, Comma>) -> Type
     }
 }
 
-/// A type in brackets, with `;` and a length behind it or without them.
+/// A type in brackets, with `;` and a length after it or without them.
 #[tactic(auto, unfolding(syn_grammar::specs::Take::is_end))]
 fn bracketed<N: Nested>(nested: &N, input: &mut ParseBuffer<'_>) -> Parsed<Type>
     requires { MayBelow N.may nested.now input.old }

@@ -1,4 +1,4 @@
-//! Calls of functions that parse.
+//! Calls of parse functions.
 ghost use Rattle.std.specs.Prelude.{◌≡◌, Result, OnErr};
 ghost use Rattle.std.specs.Fn.{FnOnceTakesAtMut};
 ghost use Rattle.syn_parse.specs.Calls.{IsAnswer};
@@ -6,15 +6,15 @@ ghost use Rattle.syn_parse.specs.Calls.{IsAnswer};
 use crate::buffer::ParseBuffer;
 use syn_tokens::error::{Error, Result};
 
-/// What a function that parses answers: a `Result`, whose error may hold a reference. (A bound `F: Fn(..) -> Result<T>` can't
-/// be called, where the error holds one.)
+/// The return type of a parse function: a `Result`, whose error may hold a reference. (A function with the bound `F: Fn(..) ->
+/// Result<T>` can't be called if the error holds one.)
 pub trait Answer<E> {
-    /// What it parses.
+    /// The parsed value.
     type Node;
 
     ghost answers: { Self → Result Self.Node E };
 
-    /// The answer itself.
+    /// The result itself.
     fn answer(self) -> std::result::Result<Self::Node, E>
         ensures { result ≡ answers self };
 }
@@ -30,8 +30,8 @@ impl<T, E> Answer<E> for std::result::Result<T, E> {
 }
 
 impl<'a> ParseBuffer<'a> {
-    /// Calls a function that parses from this buffer, and answers what it answers. Where it answers an error, the buffer
-    /// stands where it stood, whatever the function left.
+    /// Calls a parse function with this buffer, and returns its result. On an error, the buffer keeps its position, whatever
+    /// the function consumed.
     pub fn call<R: Answer<Error>, F: FnOnce(&mut ParseBuffer<'_>) -> R>(
         &mut self,
         f: F,

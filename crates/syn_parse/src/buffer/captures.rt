@@ -1,4 +1,4 @@
-//! Copies of what was read, and of what is left.
+//! Copies of parsed and of remaining tokens.
 ghost use Rattle.std.specs.Prelude.{◌≡◌, [], IfOk, IfErr, OnOk, OnErr};
 ghost use Rattle.syn_grammar.specs.Tokens.{end};
 ghost use Rattle.syn_grammar.specs.Take.{before};
@@ -9,8 +9,8 @@ use syn_tokens::stream::TokenStream;
 use syn_tokens::stream::cursor::Cursor;
 
 impl<'a> ParseBuffer<'a> {
-    /// A copy of what was read from this buffer up to the other, where that reads on from this one. Refused only where
-    /// memory is.
+    /// A copy of the tokens between this buffer and the other, which is further on in the same stream. Fails only if memory is
+    /// refused.
     #[tactic(auto, unfolding(syn_grammar::specs::Take::before))]
     pub fn between(&self, end: &ParseBuffer<'a>) -> Result<TokenStream>
         ensures ok { IfOk result (λ copy. copy ≡ before self.now end.now) }
@@ -20,7 +20,7 @@ impl<'a> ParseBuffer<'a> {
         Ok(self.tokens.first_to_stream(count, self.alloc)?)
     }
 
-    /// A copy of all that is left, which then counts as read. Refused only where memory is; then nothing is read.
+    /// Consumes the remaining tokens, and returns a copy of them. Fails only if memory is refused; then nothing is consumed.
     pub fn rest(&mut self) -> Result<TokenStream>
         ensures copy { IfOk result (λ copy. copy ≡ self.old) }
         ensures ok { OnOk result (self.new ≡ end) }

@@ -1,4 +1,4 @@
-//! Keywords and marks of own syntaxes.
+//! Custom keywords and marks.
 ghost use Rattle.std.specs.Prelude.{◌≡◌, ◌∷◌, [], IfErr};
 ghost use Rattle.syn_grammar.specs.Take.{take_mark, taken};
 ghost use Rattle.syn_grammar.specs.Promises.{Computes, Takes};
@@ -30,7 +30,7 @@ impl<'a> ParseBuffer<'a> {
         Ok(ident.span)
     }
 
-    /// Whether the identifier of this text stands next, whether or not the grammar knows it.
+    /// Whether the next token is the identifier of this text, whether or not the grammar knows it.
     #[tactic(auto, using(crate::proofs::Words::take_the_keyword, crate::proofs::Words::take_no_keyword, crate::proofs::Words::no_keyword))]
     pub(crate) fn is_at_keyword(&self, text: &str) -> bool
         ensures { result ≡ taken (take_keyword text.now self.now) }
@@ -41,7 +41,7 @@ impl<'a> ParseBuffer<'a> {
         }
     }
 
-    /// Whether these two characters stand next, the first of them Joint.
+    /// Whether the next tokens are these two characters, the first of them joint.
     #[tactic(auto, using(crate::proofs::FirstTokens::mark_is))]
     pub(crate) fn is_at_punctuation2(&self, c: char, d: char) -> bool
         ensures { result ≡ taken (take_mark (c ∷ d ∷ []) self.now) }
@@ -52,7 +52,7 @@ impl<'a> ParseBuffer<'a> {
         }
     }
 
-    /// Whether these three characters stand next, all but the last of them Joint.
+    /// Whether the next tokens are these three characters, all but the last of them joint.
     #[tactic(auto, using(crate::proofs::FirstTokens::mark_is))]
     pub(crate) fn is_at_punctuation3(&self, c: char, d: char, e: char) -> bool
         ensures { result ≡ taken (take_mark (c ∷ d ∷ e ∷ []) self.now) }

@@ -1,4 +1,4 @@
-//! What stands next, as far as one look at one token tree tells it.
+//! The kind of the next token tree, from a single lookup.
 ghost use Rattle.syn_tokens.specs.Cursors.{before_next};
 ghost use Rattle.syn_parse.specs.Firsts.{Begins};
 
@@ -6,14 +6,14 @@ use crate::buffer::ParseBuffer;
 use syn_tokens::delimiter::Delimiter;
 use syn_tokens::stream::cursor::{Cursor, TokenTreeRef};
 
-/// What the next token tree is.
+/// The kind of the next token tree.
 #[derive(Clone, Copy)]
 pub enum First {
-    /// There is none.
+    /// There is no next tree.
     Ended,
-    /// An identifier that is no keyword.
+    /// An identifier that is not a keyword.
     Name,
-    /// One that is.
+    /// A keyword.
     Keyword,
     Literal,
     /// A character of a mark.
@@ -21,7 +21,7 @@ pub enum First {
     Group(Delimiter),
 }
 
-/// What a token tree is.
+/// The kind of a token tree.
 fn first_of(next: &TokenTreeRef<'_>, rest: &Cursor<'_>) -> First
     ensures { Begins result (before_next next.now rest.now) }
 {
@@ -40,7 +40,7 @@ fn first_of(next: &TokenTreeRef<'_>, rest: &Cursor<'_>) -> First
 }
 
 impl<'a> ParseBuffer<'a> {
-    /// What stands next: a caller asks it once, and tells many conditions by it without looking again.
+    /// The kind of the next token tree: a caller fetches it once, and tests many conditions on it.
     pub fn first(&self) -> First
         ensures { Begins result self.now }
     {

@@ -1,4 +1,4 @@
-//! The token at the front of what is left.
+//! The next token, split off the remaining tokens.
 ghost use Rattle.std.specs.Prelude.{ℕ, ◌≡◌, ◌∷◌, [], ◌<◌, IfSome, MatchOption, None, Some, true};
 ghost use Rattle.syn_grammar.specs.Words.{Text};
 ghost use Rattle.syn_grammar.specs.Tokens.{leaf, punct, group};
@@ -16,7 +16,7 @@ use syn_tokens::punct::{Punct, Spacing};
 use syn_tokens::span::Span;
 use syn_tokens::stream::cursor::{Cursor, GroupRef, TokenTreeRef};
 
-/// The identifier at the front, and what follows it.
+/// The identifier that is next, and the tokens after it.
 #[tactic(auto, using(crate::proofs::FirstTokens::no_ident_first))]
 #[inline(always)]
 pub(crate) fn split_ident<'a>(cursor: &Cursor<'a>) -> Option<(IdentRef<'a>, Cursor<'a>)>
@@ -27,7 +27,7 @@ pub(crate) fn split_ident<'a>(cursor: &Cursor<'a>) -> Option<(IdentRef<'a>, Curs
     Some((ident, rest))
 }
 
-/// The literal at the front, and what follows it.
+/// The literal that is next, and the tokens after it.
 #[tactic(auto, using(crate::proofs::FirstTokens::no_literal_at_ident), unfolding(syn_grammar::specs::Take::take_token))]
 #[inline(always)]
 pub(crate) fn split_literal<'a>(cursor: &Cursor<'a>) -> Option<(LiteralRef<'a>, Cursor<'a>)>
@@ -43,7 +43,7 @@ pub(crate) fn split_literal<'a>(cursor: &Cursor<'a>) -> Option<(LiteralRef<'a>, 
     }
 }
 
-/// The character of a mark at the front, and what follows it.
+/// The character of a mark that is next, and the tokens after it.
 #[tactic(auto, using(crate::proofs::FirstTokens::no_punct_first))]
 #[inline(always)]
 pub(crate) fn split_punct<'a>(cursor: &Cursor<'a>) -> Option<(Punct, Cursor<'a>)>
@@ -54,7 +54,7 @@ pub(crate) fn split_punct<'a>(cursor: &Cursor<'a>) -> Option<(Punct, Cursor<'a>)
     Some((punct, rest))
 }
 
-/// The last character of a mark at the front, however it is joined, and what follows it.
+/// The last character of a mark, whatever its spacing, and the tokens after it.
 #[tactic(auto, using(crate::proofs::FirstTokens::last_is), unfolding(syn_grammar::specs::Take::left))]
 #[inline(always)]
 pub(crate) fn split_last<'a>(cursor: &Cursor<'a>, c: char) -> Option<(Span, Cursor<'a>)>
@@ -70,7 +70,7 @@ pub(crate) fn split_last<'a>(cursor: &Cursor<'a>, c: char) -> Option<(Span, Curs
     }
 }
 
-/// A character at the front that is joined to the next one of its mark, and what follows it.
+/// A character that is joint to the next one of its mark, and the tokens after it.
 #[tactic(auto, using(crate::proofs::FirstTokens::joint_is, crate::proofs::FirstTokens::alone_is), unfolding(syn_grammar::specs::Take::left))]
 #[inline(always)]
 pub(crate) fn split_joint<'a>(cursor: &Cursor<'a>, c: char) -> Option<(Span, Cursor<'a>)>
@@ -86,7 +86,7 @@ pub(crate) fn split_joint<'a>(cursor: &Cursor<'a>, c: char) -> Option<(Span, Cur
     }
 }
 
-/// The group with these delimiters at the front, and what follows it.
+/// The group with these delimiters that is next, and the tokens after it.
 #[tactic(auto, unfolding(syn_grammar::specs::Take::take_group, syn_grammar::specs::Take::left))]
 pub(crate) fn split_group<'a>(
     cursor: &Cursor<'a>,
@@ -113,7 +113,7 @@ pub(crate) fn split_group<'a>(
     }
 }
 
-/// The `'` and the identifier of a lifetime at the front, and what follows them.
+/// The `'` and the identifier of the lifetime that is next, and the tokens after them.
 #[tactic(auto, unfolding(syn_grammar::specs::Take::take_lifetime))]
 pub(crate) fn split_lifetime<'a>(cursor: &Cursor<'a>) -> Option<(Punct, IdentRef<'a>, Cursor<'a>)>
     ensures { MatchOption result (take_lifetime cursor.now ≡ None)

@@ -20,7 +20,7 @@ use syn_tokens::ident::ident_ref::IdentRef;
 use syn_tokens::literal::Literal;
 use syn_tokens::span::Span;
 
-/// Whether it is one of the keywords that may stand in a path.
+/// Whether it is one of the keywords that are allowed in paths.
 fn is_path_word(ident: &IdentRef<'_>) -> bool
     ensures { result ≡ one_of_texts ident.now.text path_words }
 {
@@ -28,7 +28,7 @@ fn is_path_word(ident: &IdentRef<'_>) -> bool
 }
 
 impl<'a> ParseBuffer<'a> {
-    /// An identifier that is no keyword.
+    /// An identifier that is not a keyword.
     #[tactic(auto, using(crate::proofs::Words::take_name, crate::proofs::Words::take_no_name), unfolding(syn_grammar::specs::Take::left))]
     pub(crate) fn read_name(&mut self) -> Parsed<Ident>
         ensures reads { Computes IsSyntax syntax_of_ident (take_token name self.old) result self.new }
@@ -59,7 +59,7 @@ impl<'a> ParseBuffer<'a> {
         Ok(ident.to_ident()?)
     }
 
-    /// An identifier that is no keyword, or one of the keywords of paths: `self`, `Self`, `super`, `crate`.
+    /// An identifier that is not a keyword, or one of the keywords of paths: `self`, `Self`, `super`, `crate`.
     #[tactic(auto, using(crate::proofs::Words::take_name_or, crate::proofs::Words::take_no_name_or), unfolding(syn_grammar::specs::Take::left))]
     pub fn read_path_word(&mut self) -> Parsed<Ident>
         ensures reads { Computes IsSyntax syntax_of_ident (take_token (name_or path_words) self.old) result self.new }
@@ -76,8 +76,8 @@ impl<'a> ParseBuffer<'a> {
         Ok(ident.to_ident()?)
     }
 
-    /// The identifier of this text, which some rule of the grammar may ask for: its span. Where it doesn't stand next it is
-    /// refused there, with the fault that is handed in.
+    /// Parses the identifier of this text, which some rule of the grammar may require, and returns its span. If it is not next,
+    /// fails at the next token with the given message.
     #[tactic(auto, using(crate::proofs::Words::take_word, crate::proofs::Words::take_no_word), unfolding(syn_grammar::specs::Take::left))]
     pub fn read_word(&mut self, text: &str, expected: &'static str) -> Parsed<Span>
         requires { is_known_word text.now ≡ true }
@@ -109,7 +109,7 @@ impl<'a> ParseBuffer<'a> {
         Ok(literal.to_literal()?)
     }
 
-    /// A `'` directly before an identifier: its span, and the identifier.
+    /// A `'` joint to an identifier: its span, and the identifier.
     #[tactic(auto, unfolding(syn_grammar::specs::Take::take_lifetime, syn_grammar::specs::Take::left))]
     pub(crate) fn read_lifetime(&mut self) -> Parsed<(Span, Ident)>
         ensures reads { Computes IsSyntax syntax_of_apostrophe (take_lifetime self.old) result self.new }
@@ -123,7 +123,7 @@ impl<'a> ParseBuffer<'a> {
         Ok((apostrophe.span, ident.to_ident()?))
     }
 
-    /// Whether a lifetime stands next.
+    /// Whether the next token is a lifetime.
     #[tactic(auto, using(syn_grammar::proofs::Looks::sees_lifetime), unfolding(syn_grammar::specs::Take::take_lifetime))]
     pub(crate) fn is_at_lifetime(&self) -> bool
         ensures { result ≡ sees at_lifetime self.now }
@@ -134,7 +134,7 @@ impl<'a> ParseBuffer<'a> {
         }
     }
 
-    /// Whether an identifier stands next that is no keyword.
+    /// Whether the next token is an identifier that is not a keyword.
     #[tactic(auto, using(syn_grammar::proofs::Looks::sees_name, crate::proofs::Words::take_name, crate::proofs::Words::take_no_name))]
     pub(crate) fn is_at_name(&self) -> bool
         ensures { result ≡ sees at_name self.now }
@@ -145,7 +145,7 @@ impl<'a> ParseBuffer<'a> {
         }
     }
 
-    /// Whether the identifier of this text stands next.
+    /// Whether the next token is the identifier of this text.
     #[tactic(auto, using(syn_grammar::proofs::Looks::sees_word, crate::proofs::Words::take_word, crate::proofs::Words::take_no_word))]
     pub(crate) fn is_at_word(&self, text: &str) -> bool
         requires { is_known_word text.now ≡ true }
@@ -157,7 +157,7 @@ impl<'a> ParseBuffer<'a> {
         }
     }
 
-    /// Whether a literal stands next.
+    /// Whether the next token is a literal.
     #[tactic(auto, using(crate::proofs::Literals::literal_seen, crate::proofs::Literals::no_literal_seen))]
     pub(crate) fn is_at_literal(&self) -> bool
         ensures { result ≡ sees at_any_literal self.now }
@@ -165,7 +165,7 @@ impl<'a> ParseBuffer<'a> {
         split_literal(&self.tokens).is_some()
     }
 
-    /// Whether a group with these delimiters stands next.
+    /// Whether the next token tree is a group with these delimiters.
     #[tactic(auto, using(syn_grammar::proofs::Looks::sees_group))]
     pub(crate) fn is_at_group(&self, delimiter: Delimiter) -> bool
         ensures { result ≡ sees (at_group (delimiter_of delimiter)) self.now }

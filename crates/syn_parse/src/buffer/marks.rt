@@ -14,7 +14,7 @@ use crate::read::refusal::Parsed;
 use syn_tokens::span::Span;
 
 impl<'a> ParseBuffer<'a> {
-    /// A mark of one character: where it stands. Where it doesn't stand next it is refused there, with the fault that is handed in.
+    /// Parses a mark of one character, and returns its span. If it is not next, fails at the next token with the given message.
     #[tactic(auto, using(crate::proofs::FirstTokens::mark_is))]
     pub fn read_mark1(&mut self, c: char, expected: &'static str) -> Parsed<[Span; 1]>
         ensures reads { Computes IsSyntax (syntax_of_mark (c ∷ [])) (take_mark (c ∷ []) self.old) result self.new }
@@ -28,8 +28,8 @@ impl<'a> ParseBuffer<'a> {
         Ok([first])
     }
 
-    /// A mark of two characters, the first of them Joint: where its characters stand. Where it doesn't stand next it is refused
-    /// there, with the fault that is handed in.
+    /// Parses a mark of two characters, the first of them joint, and returns their spans. If it is not next, fails at the next
+    /// token with the given message.
     #[tactic(auto, using(crate::proofs::FirstTokens::mark_is))]
     pub fn read_mark2(&mut self, c: char, d: char, expected: &'static str) -> Parsed<[Span; 2]>
         ensures reads { Computes IsSyntax (syntax_of_mark (c ∷ d ∷ [])) (take_mark (c ∷ d ∷ []) self.old) result self.new }
@@ -46,8 +46,8 @@ impl<'a> ParseBuffer<'a> {
         Ok([first, second])
     }
 
-    /// A mark of three characters, all but the last of them Joint: where its characters stand. Where it doesn't stand next it is refused
-    /// there, with the fault that is handed in.
+    /// Parses a mark of three characters, all but the last of them joint, and returns their spans. If it is not next, fails at
+    /// the next token with the given message.
     #[tactic(auto, using(crate::proofs::FirstTokens::mark_is))]
     pub fn read_mark3(
         &mut self,
@@ -73,7 +73,7 @@ impl<'a> ParseBuffer<'a> {
         Ok([first, second, third])
     }
 
-    /// Whether this mark of one character stands next.
+    /// Whether this mark of one character is next.
     #[tactic(auto, using(syn_grammar::proofs::Looks::sees_one, crate::proofs::FirstTokens::mark_is))]
     pub(crate) fn is_at_mark1(&self, c: char) -> bool
         ensures { result ≡ sees (at_mark (c ∷ [])) self.now }
@@ -81,7 +81,7 @@ impl<'a> ParseBuffer<'a> {
         split_last(&self.tokens, c).is_some()
     }
 
-    /// Whether this mark of two characters stands next.
+    /// Whether this mark of two characters is next.
     #[tactic(auto, using(syn_grammar::proofs::Looks::sees_mark, crate::proofs::FirstTokens::mark_is))]
     pub(crate) fn is_at_mark2(&self, c: char, d: char) -> bool
         requires { known_mark (c ∷ d ∷ []) ≡ true }
@@ -93,7 +93,7 @@ impl<'a> ParseBuffer<'a> {
         }
     }
 
-    /// Whether this mark of three characters stands next.
+    /// Whether this mark of three characters is next.
     #[tactic(auto, using(syn_grammar::proofs::Looks::sees_mark, crate::proofs::FirstTokens::mark_is))]
     pub(crate) fn is_at_mark3(&self, c: char, d: char, e: char) -> bool
         requires { known_mark (c ∷ d ∷ e ∷ []) ≡ true }

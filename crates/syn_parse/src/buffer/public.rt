@@ -1,4 +1,4 @@
-//! What callers ask of a buffer: each call that is refused says why by an `Error`, and leaves the buffer as it was.
+//! The public calls of a buffer: on failure each returns an `Error`, and leaves the buffer unchanged.
 ghost use Rattle.std.specs.Prelude.{◌≡◌, ◌<◌, IfOk, IfErr, OnErr, codes};
 ghost use Rattle.syn_grammar.specs.Tokens as grammar;
 ghost use Rattle.syn_grammar.specs.Take.{left, take_group};
@@ -15,8 +15,8 @@ use syn_tokens::error::{Error, Result};
 use syn_tokens::token::{Brace, Bracket, Paren, kind};
 
 impl<'a> ParseBuffer<'a> {
-    /// Parses a `T`. It is refused where the tokens are no `T`, with a fault at a token that can't stand there, and where
-    /// memory is refused; the buffer then stands where it stood.
+    /// Parses a `T`. Fails if the tokens are not a `T`, with a fault at an unexpected token, and if memory is refused; then the
+    /// buffer keeps its position.
     pub fn parse<T: Parse>(&mut self) -> Result<T>
         ensures outcome { Outcome IsSyntaxError T.syntax T.form self.old result self.new }
         ensures reads { Computes IsSyntaxError T.syntax (forms.parse T.form self.old) result self.new }
@@ -27,8 +27,8 @@ impl<'a> ParseBuffer<'a> {
         T::parse(self)
     }
 
-    /// Reads a group in parentheses: its delimiters, and a buffer over its content. It is refused where no such group stands
-    /// next, with the fault `expected parentheses` at the next token; nothing is read then. It takes no memory.
+    /// Parses a group in parentheses: returns its delimiters, and a buffer over its content. If the next tree is another one,
+    /// fails with `expected parentheses` at the next token, and consumes nothing. It allocates nothing.
     #[tactic(auto, using(crate::proofs::Errors::syntax_becomes_error, crate::proofs::Refused::refused_by_syntax, crate::proofs::Refused::refused_next))]
     pub fn parenthesized(&mut self) -> Result<(Paren, ParseBuffer<'a>)>
         ensures reads { ComputesOpened IsSyntaxError (take_group grammar.Paren self.old) result self.new }
@@ -41,8 +41,8 @@ impl<'a> ParseBuffer<'a> {
         Ok(self.read_group::<kind::Paren>()?)
     }
 
-    /// Reads a group in braces: its delimiters, and a buffer over its content. It is refused where no such group stands
-    /// next, with the fault `expected curly braces` at the next token; nothing is read then. It takes no memory.
+    /// Parses a group in braces: returns its delimiters, and a buffer over its content. If the next tree is another one, fails
+    /// with `expected curly braces` at the next token, and consumes nothing. It allocates nothing.
     #[tactic(auto, using(crate::proofs::Errors::syntax_becomes_error, crate::proofs::Refused::refused_by_syntax, crate::proofs::Refused::refused_next))]
     pub fn braced(&mut self) -> Result<(Brace, ParseBuffer<'a>)>
         ensures reads { ComputesOpened IsSyntaxError (take_group grammar.Brace self.old) result self.new }
@@ -55,8 +55,8 @@ impl<'a> ParseBuffer<'a> {
         Ok(self.read_group::<kind::Brace>()?)
     }
 
-    /// Reads a group in brackets: its delimiters, and a buffer over its content. It is refused where no such group stands
-    /// next, with the fault `expected square brackets` at the next token; nothing is read then. It takes no memory.
+    /// Parses a group in brackets: returns its delimiters, and a buffer over its content. If the next tree is another one,
+    /// fails with `expected square brackets` at the next token, and consumes nothing. It allocates nothing.
     #[tactic(auto, using(crate::proofs::Errors::syntax_becomes_error, crate::proofs::Refused::refused_by_syntax, crate::proofs::Refused::refused_next))]
     pub fn bracketed(&mut self) -> Result<(Bracket, ParseBuffer<'a>)>
         ensures reads { ComputesOpened IsSyntaxError (take_group grammar.Bracket self.old) result self.new }
@@ -69,8 +69,7 @@ impl<'a> ParseBuffer<'a> {
         Ok(self.read_group::<kind::Bracket>()?)
     }
 
-    /// Asks that nothing is left. It is refused where something is, with the fault `unexpected token` at the next
-    /// token. It takes no memory.
+    /// Checks that no tokens remain. Otherwise fails with `unexpected token` at the next token. It allocates nothing.
     #[tactic(auto, using(crate::proofs::Errors::syntax_becomes_error, crate::proofs::Refused::refused_next))]
     pub fn finish(&self) -> Result<()>
         ensures end { Finished IsSyntaxError self.now result }
@@ -79,8 +78,8 @@ impl<'a> ParseBuffer<'a> {
         Ok(self.read_end()?)
     }
 
-    /// The error with one fault, of this text, at the next token; where nothing is left it is at the closing delimiter of the
-    /// group, or behind the last token of the stream. It takes no memory.
+    /// An error with one fault, of this text, at the next token; if no tokens remain, at the closing delimiter of the group, or
+    /// after the last token of the stream. It allocates nothing.
     pub fn error(&self, text: &'static str) -> Error
         ensures { HasFaultNext self.now text.now result }
     {

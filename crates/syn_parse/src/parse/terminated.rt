@@ -21,9 +21,9 @@ use syn_tokens::token::{
     WordKind,
 };
 
-/// What may stand between the elements of a list: a word or a mark.
+/// The separator of a list: a word or a mark.
 pub trait Separator: Read {
-    /// Some token is read by it.
+    /// The form consumes at least one token.
     ghost reads_some: { ParsesSome Self.form };
 }
 
@@ -48,9 +48,9 @@ impl<K: CustomPunctuationKind<3>> Separator for CustomPunctuation<K, 3> {
 }
 
 impl<'a> ParseBuffer<'a> {
-    /// Parses elements `T` with separators `P` between them, up to the end of the buffer; a separator may stand behind the
-    /// last one or not, and there may be no elements. It is refused where an element or a separator is missing, with the
-    /// fault that `T` or `P` has there, and where memory is refused; the buffer then stands where it stood.
+    /// Parses elements `T` with separators `P` between them, up to the end of the buffer; the list may be empty, and the
+    /// trailing separator is optional. Fails if an element or a separator is missing, with the fault of `T` or `P`, and if
+    /// memory is refused; then the buffer keeps its position.
     pub fn parse_terminated<T: Parse + Drop, P: Separator + Drop>(
         &mut self,
     ) -> Result<Punctuated<T, P>>
@@ -66,7 +66,7 @@ impl<'a> ParseBuffer<'a> {
     }
 }
 
-/// The same, but where it is refused nothing is said of what is left.
+/// The same, but on failure the position of the buffer is unspecified.
 #[tactic(auto, using(syn_grammar::proofs::Looks::sees_ended))]
 fn read_to_end<T: Parse + Drop, P: Separator + Drop>(
     input: &mut ParseBuffer<'_>,
@@ -88,7 +88,7 @@ fn read_to_end<T: Parse + Drop, P: Separator + Drop>(
 }
 
 impl<'a> ParseBuffer<'a> {
-    /// The same as `parse_terminated`, as a part of what a rule reads: where it is refused nothing is said of what is left.
+    /// The same as `parse_terminated`, as a part of a rule: on failure the position of the buffer is unspecified.
     #[tactic(auto, using(syn_grammar::proofs::Looks::sees_ended))]
     pub fn read_terminated<T: Read + Drop, P: Separator + Drop>(
         &mut self,

@@ -1,4 +1,4 @@
-//! Keywords and marks of own syntaxes, as they are read.
+//! The parsers of custom keywords and marks.
 ghost use Rattle.std.specs.Prelude.{refl};
 ghost use Rattle.syn_tokens.specs.Faults.{expected};
 ghost use Rattle.syn_parse.specs.Form.{at_keyword, at_punctuation, keyword, punctuation};

@@ -1,4 +1,4 @@
-//! Identifiers, literals and lifetimes, as rules read them.
+//! The parsers of identifiers, literals and lifetimes, as parts of rules.
 ghost use Rattle.std.specs.Prelude.{[], codes, refl};
 ghost use Rattle.syn_grammar.specs.Tokens.{at_lifetime, at_name};
 ghost use Rattle.syn_grammar.specs.Grammar.{any_literal, lifetime, name, token};
@@ -13,7 +13,7 @@ use syn_tokens::ident::Ident;
 use syn_tokens::lifetime::Lifetime;
 use syn_tokens::literal::Literal;
 
-/// An identifier that is no keyword.
+/// An identifier that is not a keyword.
 impl Peek for Ident {
     ghost look = { by at_name };
 
@@ -63,7 +63,7 @@ impl Peek for Literal {
     }
 }
 
-/// A lifetime is looked for by its `'` and the identifier that it is joined to.
+/// The lookahead of a lifetime is a `'` and the identifier that it is joint to.
 impl Peek for Lifetime {
     ghost look = { by at_lifetime };
 
@@ -78,7 +78,7 @@ impl Peek for Lifetime {
     }
 }
 
-/// `'` directly before an identifier of any text.
+/// A `'` joint to an identifier of any text.
 impl Read for Lifetime {
     ghost form = { of lifetime };
 

@@ -1,4 +1,4 @@
-//! Lists with separators between their elements, as rules of the grammar read them.
+//! The parsers of lists with separators, as rules of the grammar.
 ghost use Rattle.std.specs.Prelude.{◌≡◌, Bool, IfOk, IsSome};
 ghost use Rattle.syn_grammar.specs.Rules.{Rule};
 ghost use Rattle.syn_grammar.specs.Grammar.{Syntax};
@@ -17,9 +17,10 @@ use crate::read::refusal::{Parsed, Refusal};
 use crate::read::{Peek, Read};
 use syn_tokens::punctuated::Punctuated;
 
-/// Elements with separators between them, up to an `S`, which is not read. The last separator may stand or not.
+/// Elements with separators between them, up to an `S`, which is not consumed. The trailing separator is optional.
 ///
-/// It reads a rule that is such a list (`reads`), and a row of members of two forms, which are printed in another order (`row`).
+/// It parses a rule that is such a list (`reads`), and a row of members of two forms, which are printed in another order
+/// (`row`).
 pub fn punctuated_list<
     S: Peek,
     P: Peek + Read + Drop,
@@ -48,7 +49,7 @@ where
     Ok(list)
 }
 
-/// One element at least, and others as long as a separator stands next.
+/// At least one element, and another one as long as a separator is next.
 pub fn joined_list<P: Peek + Read + Drop, R: Answer<Refusal>, F: Fn(&mut ParseBuffer<'_>) -> R>(
     input: &mut ParseBuffer<'_>,
     element: F,

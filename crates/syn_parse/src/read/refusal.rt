@@ -1,4 +1,4 @@
-//! Why a parser read nothing.
+//! The errors of internal parsers.
 ghost use Rattle.std.specs.Prelude.{◌≡◌, None};
 ghost use Rattle.syn_parse.specs.Refusals.{IsRefusedAs};
 ghost use Rattle.syn_parse.specs.declared.read.refusal.Refusal.TheVariants.{Memory};
@@ -7,16 +7,16 @@ use std::alloc::{AllocError, AllocFailed};
 use syn_tokens::error::Error;
 use syn_tokens::span::Span;
 
-/// Why a parser read nothing; smaller than an `Error`, which has room for four faults.
+/// Why a parser failed; smaller than an `Error`, which has room for four faults.
 #[derive(Clone, Copy, Debug)]
 pub enum Refusal {
-    /// Memory was refused; where what is nested goes too deep for the stack, with the first token that is too deep.
+    /// Memory was refused; if the nesting is too deep for the stack, with the first token that is too deep.
     Memory(Option<Span>),
-    /// The tokens are no such thing: where, and the text of the fault, such as ``expected `struct` ``.
+    /// The tokens don't match: the span, and the message, such as ``expected `struct` ``.
     Syntax { span: Span, text: &'static str },
 }
 
-/// What a parser answers.
+/// The result of an internal parser.
 pub type Parsed<T> = std::result::Result<T, Refusal>;
 
 impl From<AllocError> for Refusal {

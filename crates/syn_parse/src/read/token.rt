@@ -1,4 +1,4 @@
-//! Words, marks and the delimiters of groups, as rules read them.
+//! The parsers of words, marks and the delimiters of groups, as parts of rules.
 ghost use Rattle.std.specs.Prelude.{◌≡◌, [], false, refl};
 ghost use Rattle.syn_grammar.specs.Tokens.{at_group, at_mark, at_word};
 ghost use Rattle.syn_grammar.specs.Grammar.{mark, token, word};
@@ -44,13 +44,13 @@ impl<K: WordKind> Read for Word<K> {
     ghost meaning = { meaning_of _ refl };
 }
 
-/// How a mark of `N` characters is read.
+/// The parser of a mark of `N` characters.
 pub trait ReadMark<const N: usize>: MarkKind<N> {
-    /// Whether the mark stands next.
+    /// Whether the mark is next.
     fn stands(input: &ParseBuffer<'_>) -> bool
         ensures { result ≡ sees (at_mark Self.text) input.now };
 
-    /// Reads the mark: where its characters stand.
+    /// Parses the mark, and returns the spans of its characters.
     fn read(input: &mut ParseBuffer<'_>) -> Parsed<[Span; N]>
         ensures reads { Computes IsSyntax (syntax_of_mark Self.text) (take_mark Self.text input.old) result input.new }
         ensures moved { Takes 1 input.old result input.new };

@@ -93,7 +93,7 @@ impl Eq for PatPath {
 }
 
 impl CompareNested<Pat> for PatType {
-    #[tactic(auto, using(syn_lower::proofs::Attributes::same_attributes, crate::proofs::Patterns::same_typed, crate::proofs::Patterns::behind_smaller))]
+    #[tactic(auto, using(syn_lower::proofs::Attributes::same_attributes, crate::proofs::Patterns::same_typed, crate::proofs::Patterns::after_smaller))]
     fn is_same_nested<N: CompareOf<Pat>>(&self, nested: &N, other: &PatType) -> bool {
         self.attrs.is_same(&other.attrs)
             && nested.is_same_one(&self.pat, &other.pat)

@@ -77,7 +77,7 @@ impl CopyNested<Pat> for PatTupleStruct {
 }
 
 impl CopyNested<Pat> for PatType {
-    #[tactic(auto, using(crate::proofs::Patterns::behind_smaller))]
+    #[tactic(auto, using(crate::proofs::Patterns::after_smaller))]
     fn copy_nested<N: CopyOf<Pat>>(
         &self,
         nested: &N,

@@ -14,7 +14,7 @@ pub use locals::same_local_pattern;
 pub use pats::is_same_pat;
 use syn_tokens::syntactic::Syntactic;
 
-/// The comparison of values of this type that stand in other trees.
+/// The comparison of values of this type that are in other trees.
 pub trait CompareOf<T: Syntactic> {
     /// It may be called for values of this size.
     ghost may: { Self → ℕ → Type 0 };

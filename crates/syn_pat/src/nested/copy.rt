@@ -13,7 +13,7 @@ use std::alloc::{AllocError, Global};
 use syn_tokens::syntactic::Syntactic;
 use syn_tokens::syntactic::try_clone::TryClone;
 
-/// The copy of a value of this type that stands in another tree.
+/// The copy of a value of this type that is in another tree.
 pub trait CopyOf<T: Syntactic> {
     /// It may be called for values of this size.
     ghost may: { Self → ℕ → Type 0 };

@@ -17,7 +17,7 @@ use std::alloc::AllocError;
 use syn_tokens::stream::builder::StreamBuilder;
 use syn_tokens::syntactic::Syntactic;
 
-/// The print of a value of this type that stands in another tree.
+/// The print of a value of this type that is in another tree.
 pub trait PrintOf<T: Syntactic> {
     /// It may be called for values of this size.
     ghost may: { Self → ℕ → Type 0 };
@@ -29,7 +29,7 @@ pub trait PrintOf<T: Syntactic> {
         ensures begins { out.new.before ≡ out.old.before };
 }
 
-/// What is printed with the help of the print of this type: here it stands once what is added.
+/// A print that is given the print of this type. It defines what is added, for all such prints.
 pub trait PrintNested<T: Syntactic>: Syntactic {
     /// As `Print::print_in`.
     fn print_nested<N: PrintOf<T>>(

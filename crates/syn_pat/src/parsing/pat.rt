@@ -1,4 +1,4 @@
-//! Parsers of patterns. A pattern holds patterns: each parser is told what reads one inside, and the knot at the end closes the
+//! Parsers of patterns. A pattern holds patterns: each parser is given a parser for a nested one, and the knot at the end closes the
 //! circle.
 ghost use Rattle.std.specs.Prelude.{◌≡◌, refl, true};
 ghost use Rattle.syn_grammar.specs.Rules as rules;
@@ -108,7 +108,7 @@ fn paren_or_tuple(paren_token: Paren, elems: Punctuated<Pat, Comma>) -> Pat
     }
 }
 
-/// A path, with patterns in parentheses behind it or without them.
+/// A path, followed by patterns in parentheses or without them.
 #[tactic(auto, unfolding(syn_grammar::specs::Take::is_end))]
 fn by_path<N: NestedPat>(nested: &N, input: &mut ParseBuffer<'_>) -> Parsed<Pat>
     requires { MayBelow N.may nested.now input.old }
@@ -130,7 +130,7 @@ fn by_path<N: NestedPat>(nested: &N, input: &mut ParseBuffer<'_>) -> Parsed<Pat>
     }))
 }
 
-/// A name behind `ref` or `mut` or both. (It is asked for only where one of these stands next.)
+/// A name after `ref` or `mut` or both. (It is called only where one of these is next.)
 #[tactic(auto, using(crate::proofs::PatternLists::bound))]
 fn binding(input: &mut ParseBuffer<'_>) -> Parsed<Pat>
     requires bound { sees table.at_binding_word input.old ≡ true }
@@ -144,7 +144,7 @@ fn binding(input: &mut ParseBuffer<'_>) -> Parsed<Pat>
     }))
 }
 
-/// A name alone, behind which no `::` stands.
+/// A name alone, without `::` after it.
 fn name(input: &mut ParseBuffer<'_>) -> Parsed<Pat>
     ensures reads { Computes IsSyntax syntax_of_Pat (as_name (wrap Right (parse_form name_form input.old))) result input.new }
     ensures moved { Moved input.old result input.new }
@@ -172,7 +172,7 @@ fn patterns<N: NestedPat>(nested: &N, input: &mut ParseBuffer<'_>) -> Parsed<Pun
 /// How many KiB of stack are left, and what carries a refusal.
 type Inside<E> = (u32, PhantomData<E>);
 
-/// The function that reads a nested pattern, and what it is told.
+/// The function that parses a nested pattern, and the stack that is left for it.
 #[derive(Drop)]
 struct Knot<E, T> {
     pat: T,
@@ -224,7 +224,7 @@ impl Read for Pat {
     }
 }
 
-/// The pattern of a local, with its type behind a colon or without one.
+/// The pattern of a local, with its type after a colon or without one.
 pub fn typed_pattern(input: &mut ParseBuffer<'_>) -> Parsed<Pat>
     ensures reads { Computes IsSyntax (λ p. local_pattern (syntax_of_Pat p)) (parse_form typed_form input.old) result input.new }
     ensures moved { Moved input.old result input.new }
@@ -236,7 +236,7 @@ pub fn typed_pattern(input: &mut ParseBuffer<'_>) -> Parsed<Pat>
     Ok(pat)
 }
 
-/// A pattern that was read, with its type behind a colon.
+/// A pattern that was read, with its type after a colon.
 #[tactic(auto, unfolding(syn_lower::specs::Attributes::outer_listed))]
 fn with_type(pat: Pat, input: &mut ParseBuffer<'_>) -> Parsed<Pat>
     ensures reads { Computes IsSyntax (λ p. local_pattern (syntax_of_Pat p)) (as_typed (syntax_of_Pat pat) (parse_form type_form input.old)) result input.new }

@@ -10,7 +10,7 @@ ghost use Rattle.syn_lower.specs.Parsing.{sees, parse_rule, parse_form, Computes
 ghost use Rattle.syn_lower.specs.Paths.{syntax_of_PathArguments};
 ghost use Rattle.syn_lower.specs.TypeForms.{of_qualified, trait_form};
 ghost use Rattle.syn_lower.specs.Types.{syntax_of_Type};
-ghost use Rattle.syn_pat.specs.PathForms.{behind_trait_form, named_word_form, path_syntax, turbofish_form, word_form};
+ghost use Rattle.syn_pat.specs.PathForms.{after_trait_form, named_word_form, path_syntax, turbofish_form, word_form};
 ghost use Rattle.syn_pat.specs.Patterns.{path_of};
 
 use syn_lower::looks::at_named_word;
@@ -23,7 +23,7 @@ use syn_recognize::looks::at_turbofish;
 use syn_tokens::punctuated::Punctuated;
 use syn_tokens::token::{As, Lt, PathSep};
 
-/// A path in an expression or a pattern: `[::]` and words joined by `::`, each with its arguments where `::` and `<` stand behind it.
+/// A path in an expression or a pattern: `[::]` and words joined by `::`, each with its arguments where `::` and `<` follow it.
 #[tactic(auto, using(syn_grammar::proofs::Each::expression_path_is))]
 fn expression_path(input: &mut ParseBuffer<'_>) -> Parsed<Path>
     ensures parses { Parses IsSyntax itself rules.expression_path input.old result input.new }
@@ -43,7 +43,7 @@ fn expression_words(input: &mut ParseBuffer<'_>) -> Parsed<Punctuated<PathSegmen
     joined_list::<PathSep, _, _>(input, |next| word(next))
 }
 
-/// A word of such a path: an identifier or `Self`, with its arguments where they stand next; or `self`, `super` or `crate`.
+/// A word of such a path: an identifier or `Self`, with its arguments where they are next; or `self`, `super` or `crate`.
 #[tactic(auto, using(crate::proofs::PathWords::other_word))]
 fn word(input: &mut ParseBuffer<'_>) -> Parsed<PathSegment>
     ensures reads { Computes IsSyntax itself (parse_form word_form input.old) result input.new }
@@ -58,7 +58,7 @@ fn word(input: &mut ParseBuffer<'_>) -> Parsed<PathSegment>
     })
 }
 
-/// An identifier or `Self`, with its arguments where they stand next. (It is asked for only where one of these stands next.)
+/// An identifier or `Self`, with its arguments where they are next. (It is called only where one of these is next.)
 #[tactic(auto, using(crate::proofs::PathWords::named_word))]
 fn named_word(input: &mut ParseBuffer<'_>) -> Parsed<PathSegment>
     requires named { sees table.at_named_word input.old ≡ true }
@@ -71,7 +71,7 @@ fn named_word(input: &mut ParseBuffer<'_>) -> Parsed<PathSegment>
     })
 }
 
-/// The arguments of a word, where `::` and `<` stand next.
+/// The arguments of a word, where `::` and `<` are next.
 fn turbofish(input: &mut ParseBuffer<'_>) -> Parsed<PathArguments>
     ensures reads { Computes IsSyntax syntax_of_PathArguments (parse_form turbofish_form input.old) result input.new }
     ensures kept { Kept input.old result input.new }
@@ -83,7 +83,7 @@ fn turbofish(input: &mut ParseBuffer<'_>) -> Parsed<PathArguments>
     }
 }
 
-/// A path as an expression: a qualified path where `<` stands next, or a path. A qualified one holds its type, and how many of the
+/// A path as an expression: a qualified path if `<` is next, or a path. A qualified one holds its type, and how many of the
 /// words are those of the trait.
 #[tactic(auto, using(syn_grammar::proofs::Each::path_as_expression_is))]
 pub fn path_as_expression(input: &mut ParseBuffer<'_>) -> Parsed<(Option<QSelf>, Path)>
@@ -95,7 +95,7 @@ pub fn path_as_expression(input: &mut ParseBuffer<'_>) -> Parsed<(Option<QSelf>,
     Ok((None, expression_path(input)?))
 }
 
-/// A type in `< >`, perhaps with `as` and a path behind it; `::` and words.
+/// A type in `< >`, perhaps followed by `as` and a path; `::` and words.
 #[tactic(auto, using(syn_grammar::proofs::Each::qualified_expression_path_is))]
 fn qualified_path(input: &mut ParseBuffer<'_>) -> Parsed<(Option<QSelf>, Path)>
     ensures reads { Computes IsSyntax (λ p. path_of p.0 p.1) (wrap Node (wrap Left (parse_rule rules.qualified_expression_path input.old))) result input.new }
@@ -110,13 +110,13 @@ fn qualified_path(input: &mut ParseBuffer<'_>) -> Parsed<(Option<QSelf>, Path)>
     }
 }
 
-/// What stands behind the type of a qualified path without a trait: `>`, `::` and words.
+/// What follows the type of a qualified path without a trait: `>`, `::` and words.
 fn qualified_alone(
     lt_token: Lt,
     ty: Box<Type>,
     input: &mut ParseBuffer<'_>,
 ) -> Parsed<(Option<QSelf>, Path)>
-    ensures reads { Computes IsSyntax (λ p. path_of p.0 p.1) (of_qualified (lt_syntax lt_token) (syntax_of_Type ty.value) (and_then (Some (Right (Unshown Nothing), input.old)) (parse_form behind_trait_form))) result input.new }
+    ensures reads { Computes IsSyntax (λ p. path_of p.0 p.1) (of_qualified (lt_syntax lt_token) (syntax_of_Type ty.value) (and_then (Some (Right (Unshown Nothing), input.old)) (parse_form after_trait_form))) result input.new }
     ensures moved { Moved input.old result input.new }
 {
     let qself = QSelf {
@@ -133,13 +133,13 @@ fn qualified_alone(
     Ok((Some(qself), path))
 }
 
-/// What stands behind the type of a qualified path with a trait: `as`, the trait's path, `>`, `::` and words.
+/// What follows the type of a qualified path with a trait: `as`, the trait's path, `>`, `::` and words.
 fn qualified_by_trait(
     lt_token: Lt,
     ty: Box<Type>,
     input: &mut ParseBuffer<'_>,
 ) -> Parsed<(Option<QSelf>, Path)>
-    ensures reads { Computes IsSyntax (λ p. path_of p.0 p.1) (of_qualified (lt_syntax lt_token) (syntax_of_Type ty.value) (and_then (wrap Left (parse_form trait_form input.old)) (parse_form behind_trait_form))) result input.new }
+    ensures reads { Computes IsSyntax (λ p. path_of p.0 p.1) (of_qualified (lt_syntax lt_token) (syntax_of_Type ty.value) (and_then (wrap Left (parse_form trait_form input.old)) (parse_form after_trait_form))) result input.new }
     ensures moved { Moved input.old result input.new }
 {
     let as_token = input.read()?;

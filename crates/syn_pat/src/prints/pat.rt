@@ -44,7 +44,7 @@ impl PrintNested<Pat> for PatParen {
 impl ToTokens for PatPath {}
 
 impl PrintNested<Pat> for PatType {
-    #[tactic(auto, using(syn_tokens::proofs::Prints::prints, crate::proofs::Patterns::print_behind, crate::proofs::Patterns::behind_smaller))]
+    #[tactic(auto, using(syn_tokens::proofs::Prints::prints, crate::proofs::Patterns::print_after, crate::proofs::Patterns::after_smaller))]
     fn print_nested<N: PrintOf<Pat>>(
         &self,
         nested: &N,
@@ -66,7 +66,7 @@ impl Print for PatType {
 impl ToTokens for PatType {}
 
 impl Print for PatWild {
-    #[tactic(auto, using(syn_tokens::proofs::Prints::prints, crate::proofs::Patterns::print_behind))]
+    #[tactic(auto, using(syn_tokens::proofs::Prints::prints, crate::proofs::Patterns::print_after))]
     fn print_in(&self, out: &mut StreamBuilder) -> Result<(), AllocError> {
         print_outer(&self.attrs, out)?;
         self.underscore_token.print_in(out)

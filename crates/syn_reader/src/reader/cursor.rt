@@ -1,4 +1,4 @@
-//! A place in a text.
+//! Positions in a text.
 ghost use Rattle.std.specs.Prelude.{◌≡◌, ◌++◌, ◌∷◌, [], ◌<◌, ◌≤◌, ℕ, Bool, List, true, drop, length, ◌^◌, MatchOption, OnSome};
 ghost use Rattle.std.specs.Char.{encode_utf8, is_not_whitespace};
 ghost use Rattle.std.specs.Str.{IsCharBoundary};
@@ -8,7 +8,7 @@ ghost use Rattle.syn_reader.specs.Spelling.{Stands, IsBlank};
 
 use syn_tokens::span::Span;
 
-/// A place in a text, between two characters.
+/// A position in a text, between two characters.
 #[derive(Clone, Copy)]
 pub(super) struct Cursor<'a> {
     text: &'a str,
@@ -27,21 +27,21 @@ impl<'a> Cursor<'a> {
         Cursor { text, offset: 0 }
     }
 
-    /// How many bytes stand before it.
+    /// The number of bytes before it.
     pub(super) fn offset(&self) -> usize
         ensures { result ≡ self.now.offset }
     {
         self.offset
     }
 
-    /// The text behind it.
+    /// The text after it.
     pub(super) fn rest(&self) -> &'a str
         ensures { result.now ≡ drop self.now.offset self.now.text.now }
     {
         &self.text[self.offset..]
     }
 
-    /// Steps to where no more than `rest` is left.
+    /// Moves to the position after which `rest` remains.
     fn step_to(&mut self, rest: &str)
         requires { EndsWith (drop self.old.offset self.old.text.now) rest.now }
         ensures text { self.new.text ≡ self.old.text }
@@ -53,7 +53,7 @@ impl<'a> Cursor<'a> {
         self.offset = self.text.len() - rest.len();
     }
 
-    /// Steps over the next character and answers it; none at the end of the text.
+    /// Consumes the next character and returns it; none at the end of the text.
     pub(super) fn bump(&mut self) -> Option<char>
         ensures text { self.new.text ≡ self.old.text }
         ensures onward { self.old.offset ≤ self.new.offset }
@@ -76,7 +76,7 @@ impl<'a> Cursor<'a> {
         self.rest().chars().next()
     }
 
-    /// Whether this character stands next.
+    /// Whether this character is next.
     pub(super) fn is_at(&self, character: char) -> bool
         ensures { result ≡ begins_with character (left self.now) }
     {
@@ -86,7 +86,7 @@ impl<'a> Cursor<'a> {
         }
     }
 
-    /// Steps over white space.
+    /// Skips white space.
     pub(super) fn skip_white_space(&mut self)
         ensures text { self.new.text ≡ self.old.text }
         ensures onward { self.old.offset ≤ self.new.offset }
@@ -96,7 +96,7 @@ impl<'a> Cursor<'a> {
         self.step_to(self.rest().trim_start());
     }
 
-    /// Steps over the characters that pass the test, up to the first that does not.
+    /// Skips the characters that pass the test, up to the first that does not.
     pub(super) fn skip_while<F: FnMut(char) -> bool + Drop>(&mut self, test: F)
         requires { F.IsAlwaysCallable test }
         ensures text { self.new.text ≡ self.old.text }
@@ -107,7 +107,7 @@ impl<'a> Cursor<'a> {
         self.step_to(self.rest().trim_start_matches(test));
     }
 
-    /// The text from an earlier place up to this one.
+    /// The text from an earlier position up to this one.
     pub(super) fn text_since(&self, start: &Cursor<'a>) -> &'a str
         requires text { self.now.text ≡ start.now.text }
         requires earlier { start.now.offset ≤ self.now.offset }
@@ -116,7 +116,7 @@ impl<'a> Cursor<'a> {
         &self.text[start.offset..self.offset]
     }
 
-    /// Where the text from an earlier place up to this one stands.
+    /// The span from an earlier position up to this one.
     pub(super) fn span_since(&self, start: &Cursor<'a>) -> Span
         ensures { result ≡ record { start = start.now.offset; end = self.now.offset } }
     {

@@ -5,16 +5,16 @@ ghost use Rattle.syn_reader.specs.Docs.{IsDoc, IsNoDoc, escaped, quoted};
 
 use std::alloc::{AllocError, Global};
 
-/// What a doc comment says.
+/// The content of a doc comment.
 #[derive(Drop)]
 pub(super) struct Doc<'a> {
-    /// Of the item around it, not of the one behind it.
+    /// Whether it documents the enclosing item, rather than the next one.
     pub(super) inner: bool,
-    /// What stands behind the opening delimiter, and before `*/`.
+    /// The text after the opening delimiter, and before `*/`.
     pub(super) text: &'a str,
 }
 
-/// What the comment says, if it is a doc comment: `///` but not `////`, `//!`, `/** */` but not `/***` and not `/**/`, or
+/// The content of the comment, if it is a doc comment: `///` but not `////`, `//!`, `/** */` but not `/***` and not `/**/`, or
 /// `/*! */`.
 pub(super) fn doc_of(comment: &str) -> Option<Doc<'_>>
     ensures { MatchOption result (IsNoDoc comment.now) (λ d. IsDoc comment.now d.inner d.text.now) }
@@ -37,7 +37,7 @@ pub(super) fn doc_of(comment: &str) -> Option<Doc<'_>>
     Some(Doc { inner: false, text })
 }
 
-/// The text as a string literal of the language, with `\`, `"`, newline, carriage return and tab escaped.
+/// The text as a string literal of Rust, with `\`, `"`, newline, carriage return and tab escaped.
 pub(super) fn quoted(alloc: Global, text: &str) -> Result<String, AllocError>
     ensures { IfOk result (λ literal. string_bytes literal ≡ quoted (chars text.now)) }
 {
@@ -50,7 +50,7 @@ pub(super) fn quoted(alloc: Global, text: &str) -> Result<String, AllocError>
     Ok(literal)
 }
 
-/// Adds a character as it stands in a string literal.
+/// Appends a character, escaped as in a string literal.
 #[tactic(auto, unfolding(crate::specs::Docs::escaped))]
 fn push_escaped(literal: &mut String, character: char) -> Result<(), AllocError>
     ensures { IfOk result (λ _. string_bytes literal.new ≡ string_bytes literal.old ++ escaped character) }

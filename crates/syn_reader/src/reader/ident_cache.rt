@@ -1,4 +1,4 @@
-//! One text for an identifier that stands in many places.
+//! Sharing the texts of equal identifiers.
 ghost use Rattle.std.specs.Prelude.{◌≡◌, IsTrue, IfOk, IfSome};
 ghost use Rattle.syn_tokens.specs.Idents.{is_identifier};
 
@@ -6,18 +6,18 @@ use std::alloc::{AllocError, Global};
 use syn_tokens::ident::Ident;
 use syn_tokens::span::Span;
 
-/// How many places there are at most.
+/// The largest number of slots.
 const MOST: usize = 512;
 
-/// Identifiers that were read before, each at a place that its text gives. A place keeps the last two that came to it, so each
-/// takes as little time, whatever the texts are.
+/// A cache of identifiers by the hash of their text. A slot keeps the last two identifiers with its hash, so a lookup takes
+/// constant time for any texts.
 #[derive(Drop)]
 pub(super) struct IdentCache {
     places: Vec<Place>,
     alloc: Global,
 }
 
-/// The last two identifiers that came to a place, so that two names that alternate there are both found.
+/// The last two identifiers of a slot, so that two alternating names with one hash are both found.
 #[derive(Drop)]
 struct Place {
     last: Option<Ident>,
@@ -25,7 +25,7 @@ struct Place {
 }
 
 impl Place {
-    /// The identifier of this text, where it is kept here.
+    /// The identifier of this text, if it is in the slot.
     fn find(&self, text: &str) -> Option<&Ident>
         ensures { IfSome result (λ known. known.now.text ≡ text.now) }
     {
@@ -36,13 +36,13 @@ impl Place {
         }
     }
 
-    /// Keeps one more, in the room of the one that came first.
+    /// Inserts an identifier, and evicts the oldest one.
     fn keep(&mut self, ident: Ident) {
         self.before = self.last.replace(ident);
     }
 }
 
-/// A number that the text gives.
+/// The hash of a text.
 fn hash(text: &str) -> usize {
     let mut hash: usize = 0;
     for byte in text.as_bytes() {
@@ -52,7 +52,7 @@ fn hash(text: &str) -> usize {
 }
 
 impl IdentCache {
-    /// Keeps none yet; it has places enough for a text of that length.
+    /// An empty cache, whose number of slots depends on the length of the text to be read.
     pub(super) fn new(alloc: Global, length: usize) -> Result<IdentCache, AllocError> {
         let mut places = Vec::new(alloc);
         places.resize_with(
@@ -65,7 +65,8 @@ impl IdentCache {
         Ok(IdentCache { places, alloc })
     }
 
-    /// The identifier of this text, which is known to be one. Where the same was read before, it shares that one's text.
+    /// The identifier of this text, which is known to be one. It shares the text of a cached identifier, if one has the same
+    /// text.
     pub(super) fn ident(&mut self, text: &str, span: Span) -> Result<Ident, AllocError>
         requires { IsTrue (is_identifier text.now) }
         ensures { IfOk result (λ i. i ≡ record { text = text.now; span = span }) }

@@ -1,4 +1,4 @@
-//! Lexemes: the pieces that a text is cut into.
+//! The lexer: splits a text into lexemes.
 ghost use Rattle.std.specs.Prelude.{◌≡◌, ◌<◌, ◌≤◌, ◌-◌, ◌&&◌, ◌==◌, ℕ, List, true, false, not, [], ◌∷◌, ◌++◌, length, codes, IfOk, IfErr, MatchResult};
 ghost use Rattle.std.specs.Iterator.{at_most};
 ghost use Rattle.std.specs.Char.{encode_utf8, is_ascii_digit, is_not_whitespace};
@@ -27,7 +27,7 @@ mod numbers;
 use crate::reader::lexer::error::{Result, unexpected_character};
 use crate::reader::lexer::literals::{begins_byte, begins_raw_string};
 
-/// A piece of text that is a token, one of the two delimiters of a group, or a comment.
+/// A lexeme: a token, a delimiter of a group, or a comment.
 pub(super) enum Lexeme<'a> {
     Open(Delimiter, Span),
     Close(Delimiter, Span),
@@ -37,7 +37,7 @@ pub(super) enum Lexeme<'a> {
     Comment(&'a str, Span),
 }
 
-/// Cuts a text into lexemes, from left to right.
+/// Splits a text into lexemes, from left to right.
 #[derive(Drop)]
 pub(super) struct Lexer<'a> {
     cursor: Cursor<'a>,
@@ -47,7 +47,7 @@ impl<'a> Lexer<'a> {
     ghost use Rattle.syn_reader.specs.Places.{Onward, IsPast, BeginsName};
     ghost use Rattle.syn_reader.specs.Lexemes.{IsLexemeFrom};
 
-    /// What cuts that text.
+    /// The lexer of a text.
     pub(super) fn new(text: &'a str) -> Lexer<'a>
         ensures text { result.cursor.text.now ≡ text.now }
         ensures beginning { result.cursor.offset ≡ 0 }
@@ -57,7 +57,7 @@ impl<'a> Lexer<'a> {
         }
     }
 
-    /// The lexeme that begins at `start` with its first character, which was stepped over.
+    /// The lexeme from `start`, whose first character is consumed.
     fn lexeme(&mut self, start: &Cursor<'a>, first: char) -> Result<Lexeme<'a>>
         requires past { IsPast first start.now self.old.cursor }
         requires first { Stands start.now.text.now (encode_utf8 first) start.now.offset self.old.cursor.offset }
@@ -86,7 +86,7 @@ impl<'a> Lexer<'a> {
         group_delimiter(first, self.cursor.span_since(start))
     }
 
-    /// The character of a mark that begins at `start` and was stepped over.
+    /// The character of a mark from `start`, which is consumed.
     fn mark(&self, start: &Cursor<'a>, character: char) -> Lexeme<'a>
         requires past { IsPast character start.now self.now.cursor }
         requires first { Stands start.now.text.now (encode_utf8 character) start.now.offset self.now.cursor.offset }
@@ -100,7 +100,7 @@ impl<'a> Lexer<'a> {
         Lexeme::Punct(Punct::new(character, self.spacing(), span))
     }
 
-    /// What begins with that letter or `_`: a literal whose quote has letters before it, or an identifier.
+    /// The lexeme that starts with a letter or `_`: a literal with a prefix, or an identifier.
     fn word(&mut self, start: &Cursor<'a>, first: char) -> Result<Lexeme<'a>>
         requires past { IsPast first start.now self.old.cursor }
         requires may_start { may_start first ≡ true }
@@ -120,7 +120,7 @@ impl<'a> Lexer<'a> {
         Ok(self.identifier(start))
     }
 
-    /// What begins with `r`, which was stepped over: a raw string, a raw identifier, or another identifier.
+    /// The lexeme that starts with `r`, which is consumed: a raw string, a raw identifier, or another identifier.
     fn behind_r(&mut self, start: &Cursor<'a>) -> Result<Lexeme<'a>>
         requires past { IsPast 114 start.now self.old.cursor }
         ensures onward { Onward self.old.cursor self.new.cursor }
@@ -135,7 +135,7 @@ impl<'a> Lexer<'a> {
         }
     }
 
-    /// What begins with `b`, which was stepped over: a byte, a byte string, or an identifier.
+    /// The lexeme that starts with `b`, which is consumed: a byte, a byte string, or an identifier.
     fn behind_b(&mut self, start: &Cursor<'a>) -> Result<Lexeme<'a>>
         requires past { IsPast 98 start.now self.old.cursor }
         ensures onward { Onward self.old.cursor self.new.cursor }
@@ -148,7 +148,7 @@ impl<'a> Lexer<'a> {
         }
     }
 
-    /// The identifier that begins at `start` with `r`, which was stepped over, and `#`.
+    /// The identifier from `start`, whose `r` is consumed, with `#` next.
     fn raw_identifier(&mut self, start: &Cursor<'a>) -> Lexeme<'a>
         requires past { IsPast 114 start.now self.old.cursor }
         requires absent { literal_at (left start.now) ≡ Absent }
@@ -161,7 +161,7 @@ impl<'a> Lexer<'a> {
         self.identifier(start)
     }
 
-    /// The identifier that begins at `start` and whose beginning was stepped over.
+    /// The identifier from `start`, whose first characters are consumed.
     fn identifier(&mut self, start: &Cursor<'a>) -> Lexeme<'a>
         requires text { self.old.cursor.text ≡ start.now.text }
         requires earlier { start.now.offset < self.old.cursor.offset }
@@ -175,7 +175,7 @@ impl<'a> Lexer<'a> {
         Lexeme::Ident(self.cursor.text_since(start), self.cursor.span_since(start))
     }
 
-    /// Whether the character of a mark that was stepped over belongs to one mark with the next character.
+    /// Whether the consumed character of a mark and the next character belong to the same mark.
     fn spacing(&self) -> Spacing
         ensures { is_joint result ≡ (first_passes is_punct_character (left self.now.cursor) && not (begins_comment (left self.now.cursor))) }
     {
@@ -211,7 +211,7 @@ fn starts_identifier(character: char) -> bool
     character == '_' || is_xid_start(character)
 }
 
-/// Whether an identifier's first character stands next.
+/// Whether a character that starts an identifier is next.
 fn is_at_name(cursor: Cursor<'_>) -> bool
     ensures { result ≡ first_passes may_start (left cursor.entry) }
 {
@@ -221,7 +221,7 @@ fn is_at_name(cursor: Cursor<'_>) -> bool
     }
 }
 
-/// Whether the text goes on as a raw identifier does behind its `r`.
+/// Whether the text after an `r` continues as a raw identifier.
 #[tactic(auto, unfolding(crate::specs::Scanning::begins_raw_name))]
 fn begins_raw_name(cursor: Cursor<'_>) -> bool
     ensures { result ≡ begins_raw_name (left cursor.entry) }
@@ -233,7 +233,7 @@ fn begins_raw_name(cursor: Cursor<'_>) -> bool
     }
 }
 
-/// Whether a comment stands next.
+/// Whether a comment is next.
 #[tactic(auto, unfolding(crate::specs::Scanning::begins_comment))]
 fn begins_comment(cursor: Cursor<'_>) -> bool
     ensures { result ≡ begins_comment (left cursor.entry) }
@@ -245,7 +245,7 @@ fn begins_comment(cursor: Cursor<'_>) -> bool
     }
 }
 
-/// The delimiter of a group that this character is, if it is one.
+/// The delimiter of a group that this character denotes, if it denotes one.
 fn group_delimiter<'a>(character: char, span: Span) -> Result<Lexeme<'a>>
     ensures ok { IfOk result (IsDelimiter character span) }
     ensures none { IfErr result (λ _. NoDelimiter character) }

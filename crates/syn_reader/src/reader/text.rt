@@ -1,4 +1,4 @@
-//! The text of token streams.
+//! Printing token streams as text.
 ghost use Rattle.std.specs.Prelude.{◌≡◌, [], ◌++◌, true, false, OnOk, IfOk, IfErr, MatchOption, string_bytes};
 ghost use Rattle.std.specs.Char.{encode_utf8};
 ghost use Rattle.syn_grammar.specs.Tokens.{None, is_visible};
@@ -15,8 +15,8 @@ use syn_tokens::punct::{Punct, Spacing};
 use syn_tokens::stream::TokenStream;
 use syn_tokens::stream::entry::{Entry, Token};
 
-/// The text of a token stream: its tokens and the delimiters of its groups with one space between them, and none behind a
-/// mark's character that is `Joint`. The delimiters of a `None` group are not written. Refused only where memory is.
+/// The text of a token stream: its tokens and the delimiters of its groups, separated by one space, except after a `Joint`
+/// character of a mark. The delimiters of a `None` group are not printed. Fails only if memory is refused.
 #[tactic(auto, using(crate::proofs::WrittenEntries::whole_text, crate::proofs::WrittenEntries::next_entry, crate::proofs::WrittenEntries::no_entry))]
 pub fn token_text(tokens: &TokenStream) -> Result<String>
     ensures text { IfOk result (λ text. string_bytes text ≡ text_of tokens.now) }
@@ -32,16 +32,16 @@ pub fn token_text(tokens: &TokenStream) -> Result<String>
     Ok(writer.text)
 }
 
-/// A text that is being written.
+/// The text that is printed so far.
 #[derive(Drop)]
 struct Writer {
     text: String,
-    /// What comes next follows without a space.
+    /// Whether the next entry follows without a space.
     glued: bool,
 }
 
 impl Writer {
-    /// An entry; the delimiters of an invisible group are not written.
+    /// Prints an entry; the delimiters of an invisible group are not printed.
     fn entry(&mut self, entry: &Entry) -> std::result::Result<(), AllocError>
         ensures text { OnOk result (string_bytes self.new.text ≡ string_bytes self.old.text ++ entry_text self.old.glued entry.now) }
         ensures glued { OnOk result (self.new.glued ≡ direct_behind self.old.glued entry.now) }
@@ -78,7 +78,7 @@ impl Writer {
         self.text.push(punct.character())
     }
 
-    /// The space before what comes next, if there is one.
+    /// Prints the space before the next entry, if there is one.
     fn space(&mut self) -> std::result::Result<(), AllocError>
         ensures text { OnOk result (string_bytes self.new.text ≡ string_bytes self.old.text ++ gap self.old.glued) }
         ensures glued { OnOk result (self.new.glued ≡ false) }

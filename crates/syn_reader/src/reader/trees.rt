@@ -1,4 +1,4 @@
-//! Token trees from lexemes.
+//! Building token trees from lexemes.
 ghost use Rattle.std.specs.Prelude.{◌≡◌, ◌++◌, ◌∷◌, ◌<◌, ◌≤◌, ℕ, List, [], IsTrue, false, length, if◌then◌else◌, IfOk, IfErr, MatchResult};
 ghost use Rattle.syn_tokens.specs.Spans.{at};
 ghost use Rattle.syn_tokens.specs.Punct.{is_punct_character};
@@ -34,7 +34,7 @@ impl TreeBuilder {
     ghost use Rattle.syn_reader.specs.Lexemes.{FollowsAsLexeme, IsNamed};
     ghost use Rattle.syn_reader.specs.Building.{Builds, AllWithin, IsOutermost, tokens_so_far};
 
-    /// Begins with no tree and no open group, for a text of that length. What grows takes its memory from `alloc`.
+    /// Starts with no tree and no open group, for a text of this length. It grows in memory from `alloc`.
     pub(super) fn new(alloc: Global, length: usize) -> std::result::Result<TreeBuilder, AllocError>
         ensures { (text : List ℕ) → IfOk result (λ b. Builds text b 0) }
     {
@@ -44,8 +44,7 @@ impl TreeBuilder {
         })
     }
 
-    /// Adds what comes next. Refused with the fault `unbalanced group` where it closes a group other than the innermost open
-    /// one.
+    /// Adds the next lexeme. Fails with `unbalanced group` if it closes a group other than the innermost open one.
     pub(super) fn add(&mut self, lexeme: Lexeme<'_>) -> Result<()>
         requires { IsNamed lexeme }
         ensures builds { (text : List ℕ) (i j : ℕ) → Builds text self.old i → FollowsAsLexeme text i lexeme.entry j → MatchResult result (λ _. Builds text self.new j) (IsFaultWithin (length text)) }
@@ -76,7 +75,7 @@ impl TreeBuilder {
         }
     }
 
-    /// The trees, where no group is open any more. Else refused at the outermost open delimiter.
+    /// The trees, if no group is open. Otherwise fails at the outermost open delimiter.
     pub(super) fn finish(self) -> Result<TokenStream>
         ensures tokens { (n : ℕ) → AllWithin n self.inner.open_groups → MatchResult result (λ stream. flat stream ≡ tokens_so_far self) (IsFaultWithin n) }
         ensures fault { IfErr result (IsOutermost self) }
@@ -84,7 +83,7 @@ impl TreeBuilder {
         self.inner.finish()
     }
 
-    /// Goes into a group.
+    /// Opens a group.
     #[tactic(auto, using(crate::proofs::Groups::opened_more, crate::proofs::Groups::within_more))]
     fn open(&mut self, delimiter: Delimiter, opening: Span) -> std::result::Result<(), AllocError>
         ensures tokens { IfOk result (λ _. tokens_so_far self.new ≡ tokens_so_far self.old ++ (opened (delimiter_of delimiter) (at opening) ∷ [])) }
@@ -94,7 +93,7 @@ impl TreeBuilder {
         self.inner.open(delimiter, opening)
     }
 
-    /// Goes out of the innermost open group, which becomes a tree of the group around it.
+    /// Closes the innermost open group, which becomes a tree of the enclosing group.
     fn close(&mut self, delimiter: Delimiter, closing: Span) -> Result<()>
         ensures tokens { IfOk result (λ _. tokens_so_far self.new ≡ tokens_so_far self.old ++ (closed (delimiter_of delimiter) (at closing) ∷ [])) }
         ensures within { (n : ℕ) → AllWithin n self.old.inner.open_groups → closing.start < closing.end → closing.end ≤ n → MatchResult result (λ _. AllWithin n self.new.inner.open_groups) (IsFaultWithin n) }
@@ -103,7 +102,7 @@ impl TreeBuilder {
         self.inner.close(delimiter, closing)
     }
 
-    /// Adds the tokens of the attribute that a doc comment is; they all stand where the comment does.
+    /// Adds the tokens of the attribute that a doc comment denotes; all have the span of the comment.
     #[tactic(auto, unfolding(syn_tokens::specs::Punct::is_punct_character))]
     fn doc(&mut self, doc: &Doc<'_>, span: Span) -> Result<()>
         ensures tokens { IfOk result (λ _. tokens_so_far self.new ≡ tokens_so_far self.old ++ doc_tokens doc.now.inner doc.now.text.now (at span)) }
@@ -124,7 +123,7 @@ impl TreeBuilder {
         self.close(Delimiter::Bracket, span)
     }
 
-    /// Adds `#` before an attribute, or `#!` where it stands in what it speaks of.
+    /// Adds the `#` of an attribute, or `#!` if it is inside its item.
     #[tactic(auto, using(crate::proofs::Groups::joined), unfolding(syn_tokens::specs::Punct::is_punct_character))]
     fn attribute_punct(&mut self, inner: bool, span: Span) -> std::result::Result<(), AllocError>
         ensures tokens { IfOk result (λ _. tokens_so_far self.new ≡ tokens_so_far self.old ++ (punctuation 35 false (at span) ∷ (if inner then punctuation 33 false (at span) ∷ [] else []))) }
@@ -134,7 +133,7 @@ impl TreeBuilder {
         if inner { self.mark('!', span) } else { Ok(()) }
     }
 
-    /// Adds a mark's character that stands alone.
+    /// Adds a mark of a single character.
     fn mark(&mut self, character: char, span: Span) -> std::result::Result<(), AllocError>
         requires { IsTrue (is_punct_character character) }
         ensures tokens { IfOk result (λ _. tokens_so_far self.new ≡ tokens_so_far self.old ++ (punctuation character false (at span) ∷ [])) }

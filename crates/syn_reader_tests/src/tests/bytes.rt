@@ -17,7 +17,7 @@ const READ: &[Read] = &[
     ("b'a'b", "Byteb'a'b@0..5"),
     ("b'a'1", "Byteb'a'@0..4 Int1@4..5"),
     ("+b'a'", "+@0..1 Byteb'a'@1..5"),
-    // no character behind the `b`
+    // no character after the `b`
     ("b'a", "b@0..1 '+@1..2 a@2..3"),
     ("b'ab", "b@0..1 '+@1..2 ab@2..4"),
     ("b 'a'", "b@0..1 Char'a'@2..5"),

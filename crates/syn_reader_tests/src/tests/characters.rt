@@ -42,7 +42,7 @@ const READ: &[Read] = &[
     ("'a'b'c'", "Char'a'b@0..4 Char'c'@4..7"),
     ("'a'\"b\"", "Char'a'@0..3 Str\"b\"@3..6"),
     ("'a'.b", "Char'a'@0..3 .@3..4 b@4..5"),
-    // behind what is no byte's sign
+    // after what is no byte's sign
     ("c'a'", "c@0..1 Char'a'@1..4"),
     ("r'a'", "r@0..1 Char'a'@1..4"),
     ("br'a'", "br@0..2 Char'a'@2..5"),
@@ -59,7 +59,7 @@ const REFUSED: &[Refused] = &[
     ("\u{e9}'\\", 2, "unterminated literal"),
     ("&'\\", 1, "unterminated literal"),
     ("( '\\a )", 2, "unterminated literal"),
-    // a character, and behind it a `'` that begins nothing
+    // a character, and after it a `'` that begins nothing
     ("''''", 3, "unexpected character"),
     ("'a'b'", 4, "unexpected character"),
     ("'a''", 3, "unexpected character"),

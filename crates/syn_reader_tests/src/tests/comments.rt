@@ -21,7 +21,7 @@ const READ: &[Read] = &[
     ("//*\na", "a@4..5"),
     ("// ///\na", "a@7..8"),
     ("// )\na", "a@5..6"),
-    // more than three signs, and signs that stand apart
+    // more than three signs, and signs that are apart
     ("////", ""),
     ("//// a", ""),
     ("/////", ""),
@@ -49,7 +49,7 @@ const READ: &[Read] = &[
     ("/*/**/*/a", "a@8..9"),
     ("/*/*/**/*/*/a", "a@12..13"),
     ("/* /** */ */a", "a@12..13"),
-    // behind what does not nest
+    // after what does not nest
     ("/**/*/", "*+@4..5 /@5..6"),
     ("/*a*/*/", "*+@5..6 /@6..7"),
     // what a comment parts is not Joint

@@ -4,7 +4,7 @@ use crate::tests::support::{Read, Refused, are_read, are_refused, shown};
 use std::alloc::Global;
 use syn_tokens::error::Result;
 
-/// A text that is one doc comment and perhaps white space behind it, whether it is an inner one, the literal that the
+/// A text that is one doc comment and perhaps white space after it, whether it is an inner one, the literal that the
 /// attribute holds, and where the comment ends.
 type Doc = (&'static str, bool, &'static str, usize);
 
@@ -105,7 +105,7 @@ const REFUSED: &[Refused] = &[
     ("/** a", 0, "unterminated comment"),
     ("/*! a *", 0, "unterminated comment"),
     ("a /**/ /** /* */", 7, "unterminated comment"),
-    // what stands in a doc comment is no token
+    // what is in a doc comment is no token
     ("(/// )", 0, "unbalanced group"),
     ("(/** ) */", 0, "unbalanced group"),
     ("/// \"\n\"", 6, "unterminated literal"),

@@ -1,4 +1,4 @@
-//! Groups, and which of several faults is told.
+//! Groups, and which of several faults is reported.
 use crate::tests::support::{Read, Refused, are_read, are_refused};
 use syn_tokens::error::Result;
 

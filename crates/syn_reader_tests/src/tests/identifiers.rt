@@ -64,7 +64,7 @@ const READ: &[Read] = &[
 ];
 
 const REFUSED: &[Refused] = &[
-    // what goes on a name, but begins none
+    // what continues a name, but begins none
     ("\u{301}a", 0, "unexpected character"),
     ("\u{661}", 0, "unexpected character"),
     ("\u{b7}", 0, "unexpected character"),
@@ -74,7 +74,7 @@ const REFUSED: &[Refused] = &[
     ("\u{e9}\u{20ac}", 2, "unexpected character"),
     ("\u{1f600}", 0, "unexpected character"),
     ("a\u{1f600}", 1, "unexpected character"),
-    // `'` with neither a character nor a name behind it
+    // `'` followed by neither a character nor a name
     ("'", 0, "unexpected character"),
     ("a'", 1, "unexpected character"),
     ("' a", 0, "unexpected character"),
@@ -111,7 +111,7 @@ fn many_names(alloc: Global) -> Result<String> {
     Ok(text)
 }
 
-/// The name that stands at this place of them.
+/// The name that is at this place of them.
 fn name_at(alloc: Global, place: usize) -> Result<String> {
     let number = place / 3;
     match place % 3 {

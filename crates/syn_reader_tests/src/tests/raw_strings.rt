@@ -10,7 +10,7 @@ const READ: &[Read] = &[
     // a backslash is a character like others
     ("r\"\\\"", "Strr\"\\\"@0..4"),
     ("r#\"\\\"#", "Strr#\"\\\"#@0..6"),
-    // a quote with fewer `#` behind it is one, too
+    // a quote followed by fewer `#` is one, too
     ("r#\"\"#", "Strr#\"\"#@0..5"),
     ("r#\"a\"#", "Strr#\"a\"#@0..6"),
     ("r#\"\"\"#", "Strr#\"\"\"#@0..6"),

@@ -1,4 +1,4 @@
-//! Blocks whose statements are kept as their tokens.
+//! Blocks whose statements are stored as their tokens.
 ghost use Rattle.std.specs.Prelude.{◌≡◌, ◌↔◌, [], IfOk, IfErr, IsTrue};
 ghost use Rattle.syn_grammar.specs.Tokens.{end};
 ghost use Rattle.syn_grammar.specs.Rules as rules;
@@ -27,7 +27,7 @@ use syn_tokens::syntactic::compare::Compared;
 use syn_tokens::syntactic::try_clone::TryClone;
 use syn_tokens::token::{Brace, kind};
 
-/// A type of the blocks that a deferred one stands for.
+/// A block type that a deferred block opens to.
 pub trait BlockOf: Syntactic + Drop {
     ghost use Rattle.syn_grammar.specs.Rules as rules;
     ghost use Rattle.syn_grammar.specs.Run.{wrap, parse_rule};
@@ -35,12 +35,12 @@ pub trait BlockOf: Syntactic + Drop {
     ghost use Rattle.syn_parse.specs.Refusals.{IsSyntax};
     ghost use Rattle.syn_recognize.specs.DeferredTokens.{in_braces};
 
-    /// Reads statements, and makes a block of them with these braces. Refused for the input only where the rule computes nothing.
+    /// Reads statements, and makes a block of them with these braces. Reports a syntax error only where the rule derives nothing.
     fn read_statements(brace_token: Brace, input: &mut ParseBuffer<'_>) -> Parsed<Self>
         ensures reads { Computes IsSyntax Self.syntax (wrap (in_braces brace_token) (parse_rule rules.statements input.old)) result input.new };
 }
 
-/// A block whose statements are kept as their tokens.
+/// A block whose statements are stored as their tokens.
 #[derive(Drop)]
 pub struct DeferredBlock {
     pub brace_token: Brace,
@@ -64,8 +64,8 @@ impl Syntactic for DeferredBlock {
 }
 
 impl DeferredBlock {
-    /// The block that it stands for, spans included. Refused only where memory is, and where the block's type reads no statements
-    /// that are nested so deep.
+    /// Parses the block from its tokens, with their spans. Fails only where memory is refused, or where the block's type doesn't accept
+    /// this nesting depth.
     pub fn open<B: BlockOf>(&self) -> Result<B>
         ensures ok { IfOk result (λ block. B.syntax block ≡ self.now) }
         ensures memory { IfErr result (λ e. e ≡ []) }
@@ -74,7 +74,7 @@ impl DeferredBlock {
         Ok(B::read_statements(self.brace_token, &mut input)?)
     }
 
-    /// A block as what its print is read as. It is refused where its print is not read as a whole, and where memory is.
+    /// The block that the print of this one is read as. Fails where the print is not read as a whole, or where memory is refused.
     #[tactic(auto, using(syn_parse::proofs::Refused::refused_by_syntax))]
     pub fn new<B: ToTokens>(block: &B, alloc: Global) -> Result<DeferredBlock>
         ensures { Computes IsSyntaxError itself (whole_only (parse_rule rules.block (print (B.syntax block.now)))) result end }
@@ -85,7 +85,7 @@ impl DeferredBlock {
     }
 }
 
-/// Reads a block that is all that is left.
+/// Reads a block up to the end of the input.
 #[tactic(auto, unfolding(syn_grammar::specs::Take::is_end))]
 fn read_block_rest(input: &mut ParseBuffer<'_>) -> Parsed<DeferredBlock>
     ensures reads { Computes IsSyntax itself (whole_only (parse_rule rules.block input.old)) result end }
@@ -121,7 +121,7 @@ impl Compared for DeferredBlock {
     }
 }
 
-/// Two are equal exactly where their statements' tokens are. It takes no memory.
+/// Two blocks are equal exactly where the tokens of their statements are. Allocates nothing.
 impl PartialEq for DeferredBlock {
     ghost eq = { same_by itself };
 

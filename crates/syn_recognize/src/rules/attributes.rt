@@ -16,8 +16,8 @@ use crate::token::Token;
 use crate::words::{Mark, Word};
 use syn_tokens::delimiter::Delimiter;
 
-/// Outer attributes: as long as `#` stands next, `#` and a group in brackets with an attribute's meta. Inner attributes
-/// that a tree made by hand holds at a node without a place for them are not printed.
+/// Outer attributes: while `#` is next, `#` and a group in brackets with the attribute's meta. Inner attributes that a
+/// tree built by hand has at a node without a place for them are not printed.
 static ATTRIBUTES: Form = Form::When(
     Look::Mark(Mark::Pound),
     &Form::Then(
@@ -30,8 +30,8 @@ static ATTRIBUTES: Form = Form::When(
     &Form::Unshown,
 );
 
-/// Inner attributes: as long as `#` stands next and `!` behind it, these and a group in brackets with an attribute's
-/// meta. Outer attributes that a tree made by hand holds among them are not printed.
+/// Inner attributes: while `#` followed by `!` is next, both and a group in brackets with the attribute's meta. Outer
+/// attributes that a tree built by hand has among them are not printed.
 static INNER_ATTRIBUTES: Form = Form::When(
     Look::InnerAttribute,
     &Form::Then(
@@ -60,7 +60,7 @@ static META: Form = Form::Then(
     &Form::Rule(Rule::META_VALUE),
 );
 
-/// The word `unsafe` as a path of one word. (A meta asks for it only where `unsafe` stands next.)
+/// The word `unsafe` as a path of one word. (A meta parses this only if `unsafe` is next.)
 static UNSAFE_PATH: Form = Form::Then(
     &Form::When(
         Look::Mark(Mark::PathSep),
@@ -70,7 +70,7 @@ static UNSAFE_PATH: Form = Form::Then(
     &Form::Rule(Rule::UNSAFE_WORD),
 );
 
-/// The word `unsafe`, which no `::` follows.
+/// The word `unsafe`, not followed by `::`.
 static UNSAFE_WORD: Form = Form::Then(
     &Form::Shaped(
         Shape::Untagged,
@@ -86,7 +86,8 @@ static UNSAFE_WORD: Form = Form::Then(
     ),
 );
 
-/// The value of an attribute: a group of any content; or `=` and all that is left, one token tree at least; or nothing.
+/// The value of an attribute: a group of any content; or `=` and all remaining tokens, at least one token tree; or
+/// nothing.
 static META_VALUE: Form = Form::When(
     Look::Group(Delimiter::Paren),
     &Form::Raw(Delimiter::Paren),
@@ -105,7 +106,7 @@ static META_VALUE: Form = Form::When(
     ),
 );
 
-/// A path in module style: `::` where it stands next, and then the words of the path.
+/// A path in module style: an optional `::`, then the words of the path.
 static MODULE_PATH: Form = Form::Then(
     &Form::When(
         Look::Mark(Mark::PathSep),
@@ -115,8 +116,8 @@ static MODULE_PATH: Form = Form::Then(
     &Form::Rule(Rule::MODULE_WORDS),
 );
 
-/// The words of a path: an identifier that isn't a keyword, `self`, `Self`, `super` or `crate`; and where `::` stands
-/// next, that mark and the words that follow.
+/// The words of a path: an identifier that isn't a keyword, `self`, `Self`, `super` or `crate`; then, if `::` is next,
+/// that mark and the remaining words.
 static MODULE_WORDS: Form = Form::Then(
     &Form::Shaped(
         Shape::Untagged,

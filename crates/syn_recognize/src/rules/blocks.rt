@@ -1,6 +1,6 @@
 //! Written by tools/recognizers.py; edits are lost.
 //!
-//! Blocks, and expressions with nothing before or behind them.
+//! Blocks, and expressions without prefixes and postfixes.
 ghost use Rattle.std.specs.Prelude.{◌≡◌};
 ghost use Rattle.syn_grammar.specs.Run.{parse_form};
 ghost use Rattle.syn_grammar.specs.Table.{table};
@@ -30,7 +30,7 @@ static BODY: Form = Form::Inside(
     ),
 );
 
-/// A block where inner attributes aren't read; those that a tree made by hand holds are printed.
+/// A block where inner attributes aren't parsed; those that a tree built by hand has are printed.
 static PLAIN_BODY: Form = Form::Inside(
     Delimiter::Brace,
     &Form::Then(
@@ -39,7 +39,7 @@ static PLAIN_BODY: Form = Form::Inside(
     ),
 );
 
-/// No inner attributes: `#` must not stand next with `!` behind it. Inner attributes that a tree made by hand holds are
+/// No inner attributes: `#` followed by `!` must not be next. Inner attributes that a tree built by hand has are
 /// printed.
 static NO_INNER_ATTRIBUTES: Form = Form::When(
     Look::InnerAttribute,
@@ -47,10 +47,10 @@ static NO_INNER_ATTRIBUTES: Form = Form::When(
     &Form::Unshown,
 );
 
-/// An expression without attributes, signs before it and what goes on it: a literal, a macro, a group in parentheses or
-/// brackets, an invisible group that holds an expression, a block or what ends with one, `return` with an expression or
-/// without it, `break` or `continue` with a lifetime or without it, or a path, with the fields of a struct literal in
-/// braces behind it or without them. Behind `break` and its lifetime nothing stands that an expression may begin with.
+/// An expression without attributes, prefix operators and postfixes: a literal, a macro, a group in parentheses or
+/// brackets, an invisible group that holds an expression, a block or an expression that ends with one, `return` with an
+/// optional expression, `break` or `continue` with an optional lifetime, or a path, optionally with the fields of a
+/// struct literal in braces. No token that an expression may begin with may follow `break` and its lifetime.
 static PRIMARY: Form = Form::Shaped(
     Shape::Choice,
     &Form::When(
@@ -181,8 +181,8 @@ static PRIMARY_6: Form = Form::When(
     ),
 );
 
-/// The fields of a struct literal, separated by commas; the last comma may stand or not. Behind them, or alone, `..`
-/// and an expression may stand, with nothing behind it.
+/// The fields of a struct literal, separated by commas; a trailing comma is allowed. The last part, or the only one,
+/// may be `..` and an expression; then nothing may follow.
 static LITERAL_FIELDS: Form = Form::Shaped(
     Shape::Based,
     &Form::When(
@@ -209,8 +209,8 @@ static LITERAL_FIELDS_1: Form = Form::When(
     ),
 );
 
-/// A field of a struct literal: attributes; and a number, `:` and an expression, or a name, with `:` and an expression
-/// behind it or alone. An expression behind a name alone that a tree made by hand holds is not printed.
+/// A field of a struct literal: attributes; then a number, `:` and an expression, or a name, optionally with `:` and an
+/// expression. An expression that a tree built by hand has at a name alone is not printed.
 static LITERAL_FIELD: Form = Form::Then(
     &Form::Rule(Rule::ATTRIBUTES),
     &Form::When(
@@ -239,7 +239,7 @@ static LITERAL_FIELD_1: Form = Form::Then(
     ),
 );
 
-/// A block, or what ends with one: `if`, an `unsafe` block, or a block or a loop with a label or without it.
+/// A block, or an expression that ends with one: `if`, an `unsafe` block, or a block or a loop with an optional label.
 static BLOCK_LIKE: Form = Form::Shaped(
     Shape::Choice,
     &Form::When(
@@ -276,8 +276,8 @@ static BLOCK_LIKE_1: Form = Form::Shaped(
     ),
 );
 
-/// `if`: an expression, in which a path takes no braces, and a block; and behind `else`, where it stands next, a block
-/// or another `if`.
+/// `if`: an expression, in which a path takes no braces, and a block; then, if `else` is next, `else` and a block or
+/// another `if`.
 static IF_EXPRESSION: Form = Form::Shaped(
     Shape::Operand(Variant::If),
     &Form::Then(

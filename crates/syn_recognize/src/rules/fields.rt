@@ -20,7 +20,7 @@ use syn_tokens::delimiter::Delimiter;
 /// Fields with names, in braces.
 static FIELDS_NAMED: Form = Form::Inside(Delimiter::Brace, &Form::Rule(Rule::NAMED_FIELDS));
 
-/// Fields with names, separated by commas; the last comma may stand or not.
+/// Fields with names, separated by commas; a trailing comma is allowed.
 static NAMED_FIELDS: Form = Form::When(
     Look::Ended,
     &Form::Empty,
@@ -34,8 +34,8 @@ static NAMED_FIELDS: Form = Form::When(
     ),
 );
 
-/// A field with a name: attributes, a visibility, a name or `_`, a colon and a type; and perhaps a default value behind
-/// `=`.
+/// A field with a name: attributes, a visibility, a name or `_`, a colon and a type; and an optional `=` with a default
+/// value.
 static NAMED_FIELD: Form = Form::Then(
     &Form::Rule(Rule::ATTRIBUTES),
     &Form::Then(
@@ -83,8 +83,8 @@ static NAMED_FIELD_2: Form = Form::Shaped(
     ),
 );
 
-/// The fields of a field that is named `_`: `struct` or `union` and fields in braces, kept as tokens. (A field asks for
-/// them only before `struct`, or where braces follow `union`.)
+/// The fields of a field named `_`: `struct` or `union` and fields in braces, stored verbatim. (A field parses this
+/// only before `struct`, or before `union` followed by braces.)
 static NAMELESS_FIELDS: Form = Form::Captured(&Form::Then(
     &Form::When(
         Look::Word(Word::Struct),
@@ -94,8 +94,8 @@ static NAMELESS_FIELDS: Form = Form::Captured(&Form::Then(
     &Form::Rule(Rule::FIELDS_NAMED),
 ));
 
-/// A field without a name: attributes, a visibility and a type. A `=` behind it is refused. A colon that a tree made by
-/// hand holds is not printed.
+/// A field without a name: attributes, a visibility and a type. A `=` after it is refused. A colon that a tree built by
+/// hand has is not printed.
 static UNNAMED_FIELD: Form = Form::Then(
     &Form::Rule(Rule::ATTRIBUTES),
     &Form::Then(
@@ -114,7 +114,7 @@ static UNNAMED_FIELD: Form = Form::Then(
     ),
 );
 
-/// Fields without names: none, or one and, behind a comma, the others. The last comma may stand or not.
+/// Fields without names: none, or one followed optionally by a comma and the others. A trailing comma is allowed.
 static UNNAMED_FIELDS: Form = Form::When(
     Look::Ended,
     &Form::Empty,
@@ -132,7 +132,7 @@ static UNNAMED_FIELDS: Form = Form::When(
 static FIELDS_UNNAMED: Form = Form::Inside(Delimiter::Paren, &Form::Rule(Rule::UNNAMED_FIELDS));
 
 /// A variant of an enum: attributes, a visibility, which is never printed, a name, fields in braces, in parentheses or
-/// none; and perhaps a value behind `=`.
+/// none; and an optional `=` with a value.
 static VARIANT: Form = Form::Then(&Form::Rule(Rule::ATTRIBUTES), &Form::Part(Part::VARIANT_2));
 
 /// A part of `variant`.
@@ -166,7 +166,7 @@ static VARIANT_2: Form = Form::Then(
     &Form::Then(&Form::Token(Token::Name), &Form::Part(Part::VARIANT_1)),
 );
 
-/// Variants, separated by commas; the last comma may stand or not.
+/// Variants, separated by commas; a trailing comma is allowed.
 static VARIANTS: Form = Form::When(
     Look::Ended,
     &Form::Empty,

@@ -12,7 +12,7 @@ use crate::look::Look;
 use crate::plan::Planned;
 use crate::rules::Rule;
 
-/// An item: one of its kinds, or one that is kept as tokens.
+/// An item: one of its kinds, or one that is stored verbatim.
 static ITEM: Form = Form::Planned(Planned::Item);
 
 /// Items, to the end.
@@ -22,7 +22,7 @@ static ITEMS: Form = Form::When(
     &Form::Then(&Form::Rule(Rule::ITEM), &Form::Rule(Rule::ITEMS)),
 );
 
-/// A file: inner attributes and items. A first line and a frontmatter that a tree made by hand holds are not printed.
+/// A file: inner attributes and items. A first line and a frontmatter that a tree built by hand has are not printed.
 static FILE: Form = Form::Then(
     &Form::Unshown,
     &Form::Then(

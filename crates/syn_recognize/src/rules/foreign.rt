@@ -15,13 +15,13 @@ use crate::token::Token;
 use crate::words::{Mark, Word};
 use syn_tokens::delimiter::Delimiter;
 
-/// A foreign module: attributes, and what stands behind them.
+/// A foreign module with its attributes.
 static FOREIGN_MODULE: Form = Form::Then(
     &Form::Rule(Rule::ATTRIBUTES),
     &Form::Rule(Rule::FOREIGN_MODULE_REST),
 );
 
-/// A foreign module behind its attributes: perhaps `unsafe`, an ABI, and inner attributes and members in braces.
+/// A foreign module after its attributes: an optional `unsafe`, an ABI, and inner attributes and members in braces.
 static FOREIGN_MODULE_REST: Form = Form::Then(
     &Form::When(
         Look::Word(Word::Unsafe),
@@ -40,8 +40,8 @@ static FOREIGN_MODULE_REST: Form = Form::Then(
     ),
 );
 
-/// A macro as a member of a trait, an impl or a foreign module, behind its attributes: a path in module style, `!` that
-/// isn't `!=`, and a group of any content, behind which `;` stands unless it is in braces.
+/// A macro as a member of a trait, an impl or a foreign module, after its attributes: a path in module style, `!` that
+/// isn't `!=`, and a group of any content, followed by `;` unless it is in braces.
 static MEMBER_MACRO: Form = Form::Then(
     &Form::Rule(Rule::MODULE_PATH),
     &Form::Then(

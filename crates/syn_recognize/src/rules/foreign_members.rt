@@ -16,7 +16,7 @@ use crate::rules::{Part, Rule};
 use crate::token::Token;
 use crate::words::{Mark, Word};
 
-/// A foreign signature: `const`, `async`, `safe` or `unsafe`, and an ABI, each of them or not, and what begins with
+/// A foreign signature: `const`, `async`, `safe` or `unsafe`, and an ABI, all optional, and the part that begins with
 /// `fn`.
 static FOREIGN_SIGNATURE: Form = Form::Then(
     &Form::When(
@@ -47,7 +47,8 @@ static FOREIGN_SIGNATURE_1: Form = Form::Then(
     ),
 );
 
-/// A foreign static without its value and `;`: perhaps `safe` or `unsafe`, `static`, perhaps `mut`, a name and a type.
+/// A foreign static without its value and `;`: an optional `safe` or `unsafe`, `static`, an optional `mut`, a name and
+/// a type.
 static BARE_FOREIGN_STATIC: Form = Form::Then(
     &Form::Rule(Rule::SAFE_OR_UNSAFE),
     &Form::Part(Part::BARE_FOREIGN_STATIC_1),
@@ -69,7 +70,7 @@ static BARE_FOREIGN_STATIC_1: Form = Form::Then(
     ),
 );
 
-/// A foreign function: attributes, a visibility, a foreign signature and `;`. Modifiers that a tree made by hand holds
+/// A foreign function: attributes, a visibility, a foreign signature and `;`. Modifiers that a tree built by hand has
 /// are not printed.
 static FOREIGN_FUNCTION: Form = Form::Then(
     &Form::Rule(Rule::ATTRIBUTES),
@@ -98,7 +99,7 @@ static FOREIGN_STATIC: Form = Form::Then(
 );
 
 /// A foreign type: attributes, a visibility, `type`, a name, generics, a where clause and `;`. Modifiers that a tree
-/// made by hand holds are not printed.
+/// built by hand has are not printed.
 static FOREIGN_TYPE: Form = Form::Then(
     &Form::Rule(Rule::ATTRIBUTES),
     &Form::Then(
@@ -122,7 +123,7 @@ static FOREIGN_TYPE_1: Form = Form::Then(
     ),
 );
 
-/// A macro as a foreign member, of any path: attributes and the macro.
+/// A macro as a foreign member, with any path: attributes and the macro.
 static FOREIGN_MACRO: Form = Form::Then(
     &Form::Rule(Rule::ATTRIBUTES),
     &Form::Rule(Rule::MEMBER_MACRO),
@@ -138,7 +139,7 @@ static FOREIGN_MACRO_AS_ITEM: Form = Form::Then(
     ),
 );
 
-/// A foreign function with a body, which is kept as tokens, behind its attributes.
+/// A foreign function with a body, which is stored verbatim, after its attributes.
 static FOREIGN_BODY: Form = Form::Then(
     &Form::Rule(Rule::VISIBILITY),
     &Form::Then(
@@ -147,7 +148,7 @@ static FOREIGN_BODY: Form = Form::Then(
     ),
 );
 
-/// A foreign static with a value, which is kept as tokens, behind its attributes.
+/// A foreign static with a value, which is stored verbatim, after its attributes.
 static FOREIGN_VALUE: Form = Form::Then(
     &Form::Rule(Rule::VISIBILITY),
     &Form::Then(
@@ -159,7 +160,7 @@ static FOREIGN_VALUE: Form = Form::Then(
     ),
 );
 
-/// A foreign type with bounds or with a type, which is kept as tokens, behind its attributes.
+/// A foreign type with bounds or with a type, which is stored verbatim, after its attributes.
 static ODD_FOREIGN_TYPE: Form = Form::Then(
     &Form::Rule(Rule::VISIBILITY),
     &Form::Then(
@@ -262,7 +263,7 @@ static ODD_FOREIGN_TYPE_5: Form = Form::Then(
     ),
 );
 
-/// A foreign member: one of its kinds, or one that is kept as tokens.
+/// A foreign member: one of its kinds, or one that is stored verbatim.
 static FOREIGN_ITEM: Form = Form::Planned(Planned::ForeignItem);
 
 /// Foreign members, to the end.

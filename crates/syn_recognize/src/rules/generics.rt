@@ -16,8 +16,8 @@ use crate::token::Token;
 use crate::words::{Mark, Word};
 use syn_tokens::delimiter::Delimiter;
 
-/// Generics where `<` stands next: lifetime parameters and others in any order, separated by commas; the last comma may
-/// stand or not. Lifetimes are printed first; without parameters nothing is printed.
+/// Generics, if `<` is next: lifetime parameters and others in any order, separated by commas; a trailing comma is
+/// allowed. Lifetimes are printed first; without parameters nothing is printed.
 static GENERICS: Form = Form::Generics;
 
 /// A part of `generics`.
@@ -62,14 +62,14 @@ static GENERICS_3: Form = Form::Then(
     ),
 );
 
-/// A lifetime parameter: attributes, a lifetime, and perhaps lifetimes behind a colon. Without these the colon isn't
-/// printed.
+/// A lifetime parameter: attributes, a lifetime, and an optional colon with lifetimes. Without lifetimes the colon
+/// isn't printed.
 static LIFETIME_PARAMETER: Form = Form::Then(
     &Form::Rule(Rule::ATTRIBUTES),
     &Form::Then(&Form::Lifetime, &Form::Fading(Fading::Lifetimes)),
 );
 
-/// Lifetimes, joined by `+`; they may be none, and may end with `+`.
+/// Lifetimes, joined by `+`; the list may be empty, and may end with `+`.
 static LIFETIMES: Form = Form::When(
     Look::Lifetime,
     &Form::Then(
@@ -83,8 +83,8 @@ static LIFETIMES: Form = Form::When(
     &Form::Empty,
 );
 
-/// The bounds of a parameter, joined by `+`, up to what ends them at the start or behind a `+`; they may be none, and
-/// may end with `+`.
+/// The bounds of a parameter, joined by `+`, up to a token that ends them at the start or after a `+`; the list may be
+/// empty, and may end with `+`.
 static PARAMETER_BOUNDS: Form = Form::When(
     Look::ParameterEnd,
     &Form::Empty,
@@ -109,7 +109,7 @@ static BOUND: Form = Form::When(
     ),
 );
 
-/// A trait as a bound: perhaps `?`, perhaps `for` and lifetimes, and a path.
+/// A trait as a bound: an optional `?`, an optional `for` with lifetimes, and a path.
 static TRAIT_BOUND: Form = Form::Then(
     &Form::When(
         Look::Mark(Mark::Question),
@@ -129,7 +129,7 @@ static TRAIT_BOUND: Form = Form::Then(
     ),
 );
 
-/// The lifetimes behind `for`: lifetime parameters in `< >`.
+/// The lifetimes after `for`: lifetime parameters in `< >`.
 static BOUND_LIFETIMES: Form = Form::Then(
     &Form::Mark(Mark::Lt),
     &Form::Then(
@@ -138,7 +138,7 @@ static BOUND_LIFETIMES: Form = Form::Then(
     ),
 );
 
-/// Lifetime parameters up to `>`, separated by commas; the last comma may stand or not.
+/// Lifetime parameters up to `>`, separated by commas; a trailing comma is allowed.
 static LIFETIME_PARAMETERS: Form = Form::When(
     Look::Mark(Mark::Gt),
     &Form::Empty,
@@ -155,11 +155,11 @@ static LIFETIME_PARAMETERS: Form = Form::When(
     ),
 );
 
-/// A where clause where `where` stands next. Without predicates nothing is printed.
+/// A where clause, if `where` is next. Without predicates nothing is printed.
 static WHERE_CLAUSE: Form = Form::Fading(Fading::Predicates);
 
-/// The predicates of a where clause, separated by commas, up to what ends them at the start or behind a comma; the last
-/// comma may stand or not.
+/// The predicates of a where clause, separated by commas, up to a token that ends them at the start or after a comma; a
+/// trailing comma is allowed.
 static PREDICATES: Form = Form::When(
     Look::PredicateEnd,
     &Form::Empty,
@@ -173,8 +173,7 @@ static PREDICATES: Form = Form::When(
     ),
 );
 
-/// A predicate: a lifetime, a colon and lifetimes; or a type, with `for` and lifetimes before it or without them, a
-/// colon and bounds.
+/// A predicate: a lifetime, a colon and lifetimes; or an optional `for` with lifetimes, a type, a colon and bounds.
 static PREDICATE: Form = Form::When(
     Look::Lifetime,
     &Form::Then(
@@ -203,8 +202,8 @@ static PREDICATE_1: Form = Form::Then(
     ),
 );
 
-/// The bounds of a predicate, joined by `+`, up to what ends them at the start or behind a `+`; they may be none, and
-/// may end with `+`.
+/// The bounds of a predicate, joined by `+`, up to a token that ends them at the start or after a `+`; the list may be
+/// empty, and may end with `+`.
 static PREDICATE_BOUNDS: Form = Form::When(
     Look::PredicateEnd,
     &Form::Empty,

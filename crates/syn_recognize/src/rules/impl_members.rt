@@ -17,8 +17,8 @@ use crate::rules::{Part, Rule};
 use crate::token::Token;
 use crate::words::{Mark, Word};
 
-/// A constant of an impl: attributes, a visibility, perhaps `default`, `const`, a name or `_`, a type, a value and `;`.
-/// Generics that a tree made by hand holds are not printed.
+/// A constant of an impl: attributes, a visibility, an optional `default`, `const`, a name or `_`, a type, a value and
+/// `;`. Generics that a tree built by hand has are not printed.
 static IMPL_CONST: Form = Form::Then(
     &Form::Rule(Rule::ATTRIBUTES),
     &Form::Part(Part::IMPL_CONST_2),
@@ -58,7 +58,7 @@ static IMPL_CONST_2: Form = Form::Then(
     ),
 );
 
-/// A function of an impl: attributes, a visibility, perhaps `default`, a signature and a body.
+/// A function of an impl: attributes, a visibility, an optional `default`, a signature and a body.
 static IMPL_FUNCTION: Form = Form::Then(
     &Form::Rule(Rule::ATTRIBUTES),
     &Form::Then(
@@ -74,7 +74,7 @@ static IMPL_FUNCTION: Form = Form::Then(
     ),
 );
 
-/// A type of an impl: attributes, a visibility, perhaps `default`, `type`, a name, generics, `=`, a type, a where
+/// A type of an impl: attributes, a visibility, an optional `default`, `type`, a name, generics, `=`, a type, a where
 /// clause and `;`.
 static IMPL_TYPE: Form = Form::Then(
     &Form::Rule(Rule::ATTRIBUTES),
@@ -109,13 +109,13 @@ static IMPL_TYPE_1: Form = Form::Then(
     ),
 );
 
-/// A macro as a member of an impl, of any path: attributes and the macro.
+/// A macro as a member of an impl, with any path: attributes and the macro.
 static IMPL_MACRO: Form = Form::Then(
     &Form::Rule(Rule::ATTRIBUTES),
     &Form::Rule(Rule::MEMBER_MACRO),
 );
 
-/// A macro among the members of an impl: its path begins neither with `Self`, nor with `default` before `::`.
+/// A macro among the members of an impl: its path begins neither with `Self`, nor with `default` followed by `::`.
 static IMPL_MACRO_AS_ITEM: Form = Form::Then(
     &Form::Rule(Rule::ATTRIBUTES),
     &Form::When(
@@ -125,7 +125,7 @@ static IMPL_MACRO_AS_ITEM: Form = Form::Then(
     ),
 );
 
-/// A function of an impl without a body, which is kept as tokens, behind its attributes.
+/// A function of an impl without a body, which is stored verbatim, after its attributes.
 static BODILESS_IMPL_FUNCTION: Form = Form::Then(
     &Form::Rule(Rule::VISIBILITY),
     &Form::Then(
@@ -138,7 +138,7 @@ static BODILESS_IMPL_FUNCTION: Form = Form::Then(
     ),
 );
 
-/// A constant of an impl with generics, with a where clause or without a value, which is kept as tokens, behind its
+/// A constant of an impl with generics, with a where clause or without a value, which is stored verbatim, after its
 /// attributes.
 static ODD_IMPL_CONST: Form = Form::Then(
     &Form::Rule(Rule::VISIBILITY),
@@ -235,7 +235,7 @@ static ODD_IMPL_CONST_5: Form = Form::Then(
     ),
 );
 
-/// A type of an impl with bounds or without a type, which is kept as tokens, behind its attributes.
+/// A type of an impl with bounds or without a type, which is stored verbatim, after its attributes.
 static ODD_IMPL_TYPE: Form = Form::Then(
     &Form::Rule(Rule::VISIBILITY),
     &Form::Then(
@@ -303,7 +303,7 @@ static ODD_IMPL_TYPE_3: Form = Form::Then(
     ),
 );
 
-/// A member of an impl: one of its kinds, or one that is kept as tokens.
+/// A member of an impl: one of its kinds, or one that is stored verbatim.
 static IMPL_ITEM: Form = Form::Planned(Planned::ImplItem);
 
 /// Members of an impl, to the end.

@@ -18,7 +18,8 @@ use crate::token::Token;
 use crate::words::{Mark, Word};
 use syn_tokens::delimiter::Delimiter;
 
-/// The self type of an impl behind `for`. (Where it would be read as generics, empty generics of the impl are printed.)
+/// The self type of an impl after `for`. (If its print would be parsed as generics, the empty generics of the impl are
+/// printed.)
 static SELF_TYPE: Form = Form::Rule(Rule::TYPE);
 
 /// `for` and the self type.
@@ -27,7 +28,7 @@ static FOR_SELF_TYPE: Form = Form::Then(
     &Form::Only(Rule::SELF_TYPE),
 );
 
-/// What ends an impl: a where clause, and inner attributes and members in braces.
+/// The end of an impl: a where clause, and inner attributes and members in braces.
 static IMPL_BODY: Form = Form::Then(
     &Form::Rule(Rule::WHERE_CLAUSE),
     &Form::Inside(
@@ -39,19 +40,19 @@ static IMPL_BODY: Form = Form::Then(
     ),
 );
 
-/// An impl: attributes, and what stands behind them.
+/// An impl with its attributes.
 static IMPL_DEFINITION: Form = Form::Then(
     &Form::Rule(Rule::ATTRIBUTES),
     &Form::Rule(Rule::IMPL_DEFINITION_REST),
 );
 
-/// An impl behind its attributes: perhaps `default`, perhaps `const`, perhaps `unsafe`, `impl` and generics; the never
-/// type, `!` and a path with `for` and a type, a path with `for` and a type or alone, or a type that is no plain path;
-/// and what ends it.
+/// An impl after its attributes: `default`, `const` and `unsafe`, all optional, `impl` and generics; then the never
+/// type, `!` and a path with `for` and a type, a path with an optional `for` and type, or a type that is no plain path;
+/// and its end.
 static IMPL_DEFINITION_REST: Form = Form::Planned(Planned::ImplDefinitionRest);
 
-/// An impl for a type whose first type is no plain path, behind its attributes. It is kept as tokens by itself: printed
-/// anew, its first type might be read as generics.
+/// An impl for a type whose first type is no plain path, after its attributes. This rule itself stores it verbatim:
+/// printed anew, its first type might be parsed as generics.
 static ODD_IMPL: Form = Form::Captured(&Form::Then(
     &Form::When(
         Look::Word(Word::Default),
@@ -125,8 +126,8 @@ static ODD_IMPL_4: Form = Form::Then(
     ),
 );
 
-/// An impl with a visibility and `const`, behind its attributes, with any first type. It is kept as tokens by itself,
-/// as another.
+/// An impl with a visibility and `const`, after its attributes, with any first type. This rule itself stores it
+/// verbatim.
 static VISIBLE_CONST_IMPL: Form = Form::Captured(&Form::Then(
     &Form::Token(Token::Word(Word::Pub)),
     &Form::Then(

@@ -16,13 +16,13 @@ use crate::token::Token;
 use crate::words::{Mark, Word};
 use syn_tokens::delimiter::Delimiter;
 
-/// A struct: attributes, and what stands behind them.
+/// A struct with its attributes.
 static STRUCTURE: Form = Form::Then(
     &Form::Rule(Rule::ATTRIBUTES),
     &Form::Rule(Rule::STRUCTURE_REST),
 );
 
-/// A struct behind its attributes: a visibility, `struct`, a name, generics and a body.
+/// A struct after its attributes: a visibility, `struct`, a name, generics and a body.
 static STRUCTURE_REST: Form = Form::Then(
     &Form::Rule(Rule::VISIBILITY),
     &Form::Then(
@@ -37,8 +37,8 @@ static STRUCTURE_REST: Form = Form::Then(
     ),
 );
 
-/// What follows a struct's generics: fields in parentheses, a where clause and `;`; or a where clause, and then fields
-/// in braces or `;` alone. A semicolon behind braces that a tree made by hand holds is not printed.
+/// The part of a struct after its generics: fields in parentheses, a where clause and `;`; or a where clause, then
+/// fields in braces or `;` alone. A semicolon that a tree built by hand has after braces is not printed.
 static STRUCTURE_BODY: Form = Form::When(
     Look::Group(Delimiter::Paren),
     &Form::Then(
@@ -58,13 +58,13 @@ static STRUCTURE_BODY_1: Form = Form::Then(
     ),
 );
 
-/// An enum: attributes, and what stands behind them.
+/// An enum with its attributes.
 static ENUMERATION: Form = Form::Then(
     &Form::Rule(Rule::ATTRIBUTES),
     &Form::Rule(Rule::ENUMERATION_REST),
 );
 
-/// An enum behind its attributes: a visibility, `enum`, a name, generics, a where clause, and its variants in braces.
+/// An enum after its attributes: a visibility, `enum`, a name, generics, a where clause, and its variants in braces.
 static ENUMERATION_REST: Form = Form::Then(
     &Form::Rule(Rule::VISIBILITY),
     &Form::Part(Part::ENUMERATION_REST_1),
@@ -85,13 +85,13 @@ static ENUMERATION_REST_1: Form = Form::Then(
     ),
 );
 
-/// A union: attributes, and what stands behind them.
+/// A union with its attributes.
 static UNION_ITEM: Form = Form::Then(
     &Form::Rule(Rule::ATTRIBUTES),
     &Form::Rule(Rule::UNION_ITEM_REST),
 );
 
-/// A union behind its attributes: a visibility, `union`, a name, generics, a where clause, and its fields in braces.
+/// A union after its attributes: a visibility, `union`, a name, generics, a where clause, and its fields in braces.
 static UNION_ITEM_REST: Form = Form::Then(
     &Form::Rule(Rule::VISIBILITY),
     &Form::Then(

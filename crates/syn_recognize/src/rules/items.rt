@@ -17,13 +17,13 @@ use crate::token::Token;
 use crate::words::{Mark, Word};
 use syn_tokens::delimiter::Delimiter;
 
-/// A function: attributes, and what stands behind them.
+/// A function with its attributes.
 static FUNCTION: Form = Form::Then(
     &Form::Rule(Rule::ATTRIBUTES),
     &Form::Rule(Rule::FUNCTION_REST),
 );
 
-/// A function behind its attributes: a visibility, a signature and a body. Modifiers that a tree made by hand holds are
+/// A function after its attributes: a visibility, a signature and a body. Modifiers that a tree built by hand has are
 /// not printed.
 static FUNCTION_REST: Form = Form::Then(
     &Form::Rule(Rule::VISIBILITY),
@@ -33,14 +33,14 @@ static FUNCTION_REST: Form = Form::Then(
     ),
 );
 
-/// A constant: attributes, and what stands behind them.
+/// A constant with its attributes.
 static CONST_ITEM: Form = Form::Then(
     &Form::Rule(Rule::ATTRIBUTES),
     &Form::Rule(Rule::CONST_ITEM_REST),
 );
 
-/// A constant behind its attributes: a visibility, `const`, a name or `_`, a type, a value and `;`. Modifiers and
-/// generics that a tree made by hand holds are not printed.
+/// A constant after its attributes: a visibility, `const`, a name or `_`, a type, a value and `;`. Modifiers and
+/// generics that a tree built by hand has are not printed.
 static CONST_ITEM_REST: Form = Form::Then(
     &Form::Rule(Rule::VISIBILITY),
     &Form::Then(
@@ -70,13 +70,13 @@ static CONST_ITEM_REST_1: Form = Form::Then(
     ),
 );
 
-/// A static: attributes, and what stands behind them.
+/// A static with its attributes.
 static STATIC_ITEM: Form = Form::Then(
     &Form::Rule(Rule::ATTRIBUTES),
     &Form::Rule(Rule::STATIC_ITEM_REST),
 );
 
-/// A static behind its attributes: a visibility, `static`, perhaps `mut`, a name, a type, a value and `;`.
+/// A static after its attributes: a visibility, `static`, an optional `mut`, a name, a type, a value and `;`.
 static STATIC_ITEM_REST: Form = Form::Then(
     &Form::Rule(Rule::VISIBILITY),
     &Form::Then(
@@ -107,14 +107,14 @@ static STATIC_ITEM_REST_1: Form = Form::Then(
     ),
 );
 
-/// An extern crate: attributes, and what stands behind them.
+/// An extern crate with its attributes.
 static EXTERN_CRATE: Form = Form::Then(
     &Form::Rule(Rule::ATTRIBUTES),
     &Form::Rule(Rule::EXTERN_CRATE_REST),
 );
 
-/// An extern crate behind its attributes: a visibility, `extern crate`, a name or `self`, perhaps `as` and a name or
-/// `_`, and `;`.
+/// An extern crate after its attributes: a visibility, `extern crate`, a name or `self`, an optional `as` with a name
+/// or `_`, and `;`.
 static EXTERN_CRATE_REST: Form = Form::Then(
     &Form::Rule(Rule::VISIBILITY),
     &Form::Then(
@@ -142,8 +142,8 @@ static EXTERN_CRATE_REST_1: Form = Form::Then(
     ),
 );
 
-/// A tree of a use: `*`; trees in braces; or a name, `self`, `super`, `crate` or `try`, with `::` and a tree behind it,
-/// with `as` and a name or `_`, or alone.
+/// A tree of a use: `*`; trees in braces; or a name, `self`, `super`, `crate` or `try`, alone, followed by `::` and a
+/// tree, or followed by `as` and a name or `_`.
 static USE_TREE: Form = Form::When(
     Look::Mark(Mark::Star),
     &Form::Mark(Mark::Star),
@@ -171,7 +171,7 @@ static USE_TREE_1: Form = Form::Then(
     ),
 );
 
-/// Trees of a use, separated by commas; the last comma may stand or not.
+/// Trees of a use, separated by commas; a trailing comma is allowed.
 static USE_TREES: Form = Form::When(
     Look::Ended,
     &Form::Empty,
@@ -188,8 +188,7 @@ static USE_TREES: Form = Form::When(
 /// The mark `::` before a tree of a use in braces.
 static ROOT_MARK: Form = Form::Mark(Mark::PathSep);
 
-/// A tree of a use in braces that stand behind `use` itself, or as a tree in such braces: with `::` before it or
-/// without it.
+/// A tree in the braces that directly follow `use`, or that are a tree in such braces: with an optional `::` before it.
 static ROOTED_TREE: Form = Form::When(
     Look::Mark(Mark::PathSep),
     &Form::Then(&Form::Only(Rule::ROOT_MARK), &Form::Rule(Rule::USE_TREE)),
@@ -200,7 +199,7 @@ static ROOTED_TREE: Form = Form::When(
     ),
 );
 
-/// Such trees, separated by commas; the last comma may stand or not.
+/// Such trees, separated by commas; a trailing comma is allowed.
 static ROOTED_TREES: Form = Form::When(
     Look::Ended,
     &Form::Empty,
@@ -214,24 +213,24 @@ static ROOTED_TREES: Form = Form::When(
     ),
 );
 
-/// A use: attributes, and what stands behind them.
+/// A use with its attributes.
 static USE_ITEM: Form = Form::Then(
     &Form::Rule(Rule::ATTRIBUTES),
     &Form::Rule(Rule::USE_ITEM_REST),
 );
 
-/// A use behind its attributes: a visibility, `use`, trees in braces of which none has `::` before it, or a tree with
-/// `::` before it or without it, and `;`.
+/// A use after its attributes: a visibility, `use`, trees in braces, none of which has `::` before it, or a tree with
+/// an optional `::` before it, and `;`.
 static USE_ITEM_REST: Form = Form::Planned(Planned::UseItemRest);
 
-/// A module: attributes, and what stands behind them.
+/// A module with its attributes.
 static MODULE_ITEM: Form = Form::Then(
     &Form::Rule(Rule::ATTRIBUTES),
     &Form::Rule(Rule::MODULE_ITEM_REST),
 );
 
-/// A module behind its attributes: a visibility, perhaps `unsafe`, `mod`, a name or `try`, and `;` or inner attributes
-/// and items in braces. A semicolon with the braces that a tree made by hand holds is not printed.
+/// A module after its attributes: a visibility, an optional `unsafe`, `mod`, a name or `try`, and `;` or inner
+/// attributes and items in braces. A semicolon that a tree built by hand has with the braces is not printed.
 static MODULE_ITEM_REST: Form = Form::Then(
     &Form::Rule(Rule::VISIBILITY),
     &Form::Then(
@@ -266,8 +265,8 @@ static MODULE_ITEM_REST_1: Form = Form::Then(
     ),
 );
 
-/// The bounds of a trait alias, joined by `+`, up to what ends them at the start or behind a `+`; they may be none, and
-/// may end with `+`.
+/// The bounds of a trait alias, joined by `+`, up to a token that ends them at the start or after a `+`; the list may
+/// be empty, and may end with `+`.
 static ALIAS_BOUNDS: Form = Form::When(
     Look::Or(&Look::Word(Word::Where), &Look::Mark(Mark::Semi)),
     &Form::Empty,
@@ -281,8 +280,8 @@ static ALIAS_BOUNDS: Form = Form::When(
     ),
 );
 
-/// The bounds of a type, joined by `+`, up to what ends them at the start or behind a `+`; they may be none, and may
-/// end with `+`.
+/// The bounds of a type, joined by `+`, up to a token that ends them at the start or after a `+`; the list may be
+/// empty, and may end with `+`.
 static TYPE_BOUNDS: Form = Form::When(
     Look::Or(
         &Look::Word(Word::Where),
@@ -320,27 +319,27 @@ static ALIAS_1: Form = Form::Then(
     ),
 );
 
-/// A trait alias: attributes, and what stands behind them.
+/// A trait alias with its attributes.
 static TRAIT_ALIAS: Form = Form::Then(
     &Form::Rule(Rule::ATTRIBUTES),
     &Form::Rule(Rule::TRAIT_ALIAS_REST),
 );
 
-/// A trait alias behind its attributes: a visibility, and the alias.
+/// A trait alias after its attributes: a visibility, and the alias.
 static TRAIT_ALIAS_REST: Form = Form::Then(&Form::Rule(Rule::VISIBILITY), &Form::Rule(Rule::ALIAS));
 
-/// A type alias: attributes, and what stands behind them.
+/// A type alias with its attributes.
 static TYPE_ITEM: Form = Form::Then(
     &Form::Rule(Rule::ATTRIBUTES),
     &Form::Rule(Rule::TYPE_ITEM_REST),
 );
 
-/// A type alias behind its attributes: a visibility, `type`, a name, generics, `=` and a type with a where clause
-/// before the `=` or behind the type, and `;`. Modifiers, and the place of a clause without predicates, that a tree
-/// made by hand holds are not printed.
+/// A type alias after its attributes: a visibility, `type`, a name, generics, `=` and a type, with a where clause
+/// before the `=` or after the type, and `;`. Modifiers, and the place of a clause without predicates, that a tree
+/// built by hand has are not printed.
 static TYPE_ITEM_REST: Form = Form::Planned(Planned::TypeItemRest);
 
-/// What ends a macro that stands as an item: a group in braces, or one in parentheses or brackets and `;`.
+/// The end of a macro that is an item: a group in braces, or one in parentheses or brackets and `;`.
 static MACRO_END: Form = Form::When(
     Look::Group(Delimiter::Paren),
     &Form::Then(&Form::Raw(Delimiter::Paren), &Form::Mark(Mark::Semi)),
@@ -351,14 +350,14 @@ static MACRO_END: Form = Form::When(
     ),
 );
 
-/// A macro as an item, of any path: attributes, and what stands behind them.
+/// A macro as an item, with its attributes; its path may be any.
 static MACRO_ITEM: Form = Form::Then(
     &Form::Rule(Rule::ATTRIBUTES),
     &Form::Rule(Rule::MACRO_ITEM_REST),
 );
 
-/// A macro as an item, behind its attributes: a path in module style, `!` that isn't `!=`, perhaps a name or `try`, and
-/// a group of any content, behind which `;` stands unless it is in braces.
+/// A macro as an item, after its attributes: a path in module style, `!` that isn't `!=`, optionally a name or `try`,
+/// and a group of any content, followed by `;` unless it is in braces.
 static MACRO_ITEM_REST: Form = Form::Then(
     &Form::Rule(Rule::MODULE_PATH),
     &Form::Part(Part::MACRO_ITEM_REST_1),
@@ -381,13 +380,13 @@ static MACRO_ITEM_REST_1: Form = Form::Then(
     ),
 );
 
-/// A macro among items: attributes, and what stands behind them.
+/// A macro among items, with its attributes.
 static MACRO_AS_ITEM: Form = Form::Then(
     &Form::Rule(Rule::ATTRIBUTES),
     &Form::Rule(Rule::MACRO_AS_ITEM_REST),
 );
 
-/// A macro among items, behind its attributes: its path begins neither with `Self`, nor with `default` before `::`.
+/// A macro among items, after its attributes: its path begins neither with `Self`, nor with `default` followed by `::`.
 static MACRO_AS_ITEM_REST: Form = Form::When(
     Look::NoMacroItem,
     &Form::Never(Fault::Unexpected),

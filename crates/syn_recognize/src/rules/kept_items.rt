@@ -1,6 +1,6 @@
 //! Written by tools/recognizers.py; edits are lost.
 //!
-//! Items that are kept as tokens.
+//! Items that are stored verbatim.
 ghost use Rattle.std.specs.Prelude.{◌≡◌};
 ghost use Rattle.syn_grammar.specs.Run.{parse_form};
 ghost use Rattle.syn_grammar.specs.Table.{table};
@@ -16,13 +16,13 @@ use crate::token::Token;
 use crate::words::{Mark, Word};
 use syn_tokens::delimiter::Delimiter;
 
-/// A function without a body, which is kept as tokens, behind its attributes: a visibility, a signature and `;`.
+/// A function without a body, which is stored verbatim, after its attributes: a visibility, a signature and `;`.
 static BODILESS_FUNCTION: Form = Form::Then(
     &Form::Rule(Rule::VISIBILITY),
     &Form::Then(&Form::Rule(Rule::SIGNATURE), &Form::Mark(Mark::Semi)),
 );
 
-/// A static without a type, which is kept as tokens, behind its attributes.
+/// A static without a type, which is stored verbatim, after its attributes.
 static UNTYPED_STATIC: Form = Form::Then(
     &Form::Rule(Rule::VISIBILITY),
     &Form::Then(
@@ -47,7 +47,7 @@ static UNTYPED_STATIC_1: Form = Form::Then(
     ),
 );
 
-/// A static without a value, which is kept as tokens, behind its attributes.
+/// A static without a value, which is stored verbatim, after its attributes.
 static VALUELESS_STATIC: Form = Form::Then(
     &Form::Rule(Rule::VISIBILITY),
     &Form::Then(
@@ -72,7 +72,7 @@ static VALUELESS_STATIC_1: Form = Form::Then(
     ),
 );
 
-/// A constant with generics, with a where clause or without a value, which is kept as tokens, behind its attributes.
+/// A constant with generics, with a where clause or without a value, which is stored verbatim, after its attributes.
 static ODD_CONST: Form = Form::Then(
     &Form::Rule(Rule::VISIBILITY),
     &Form::Part(Part::ODD_CONST_5),
@@ -158,7 +158,7 @@ static ODD_CONST_5: Form = Form::Then(
     ),
 );
 
-/// A definition by `macro`, which is kept as tokens, behind its attributes: a visibility, `macro`, a name, perhaps
+/// A definition by `macro`, which is stored verbatim, after its attributes: a visibility, `macro`, a name, optional
 /// parentheses, and braces, both of any content.
 static MACRO_DEFINITION: Form = Form::Then(
     &Form::Rule(Rule::VISIBILITY),
@@ -178,7 +178,7 @@ static MACRO_DEFINITION: Form = Form::Then(
     ),
 );
 
-/// A type alias with bounds or without a type, which is kept as tokens, behind its attributes.
+/// A type alias with bounds or without a type, which is stored verbatim, after its attributes.
 static ODD_TYPE: Form = Form::Then(
     &Form::Rule(Rule::VISIBILITY),
     &Form::Then(

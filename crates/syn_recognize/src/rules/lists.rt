@@ -13,7 +13,7 @@ use crate::look::Look;
 use crate::rules::{Part, Rule};
 use crate::words::Mark;
 
-/// Expressions, separated by commas; the last comma may stand or not.
+/// Expressions, separated by commas; a trailing comma is allowed.
 static EXPRESSIONS: Form = Form::When(
     Look::Ended,
     &Form::Empty,
@@ -27,8 +27,8 @@ static EXPRESSIONS: Form = Form::When(
     ),
 );
 
-/// What the brackets of an array hold: nothing; an expression, `;` and the number of its copies; or expressions,
-/// separated by commas, of which the last comma may stand or not.
+/// The content of an array's brackets: nothing; an expression, `;` and the number of its copies; or expressions,
+/// separated by commas; a trailing comma is allowed.
 static ARRAY_CONTENT: Form = Form::When(
     Look::Ended,
     &Form::Empty,

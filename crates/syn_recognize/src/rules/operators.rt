@@ -35,7 +35,7 @@ static CAST: Form = Form::Shaped(
     &Form::Then(&Form::Rule(Rule::UNARY), &Form::Rule(Rule::CASTS)),
 );
 
-/// What an operand is multiplied with or divided by, any number of times.
+/// The operators `*`, `/` and `%` after an operand, each with its right operand, any number of times.
 static PRODUCTS: Form = Form::When(
     Look::But(&Look::Mark(Mark::Star), &Look::Mark(Mark::StarEq)),
     &Form::Then(
@@ -80,7 +80,7 @@ static PRODUCT: Form = Form::Shaped(
     &Form::Then(&Form::Rule(Rule::CAST), &Form::Rule(Rule::PRODUCTS)),
 );
 
-/// What is added to an operand or taken from it, any number of times.
+/// The operators `+` and `-` after an operand, each with its right operand, any number of times.
 static SUMS: Form = Form::When(
     Look::But(&Look::Mark(Mark::Plus), &Look::Mark(Mark::PlusEq)),
     &Form::Then(
@@ -112,7 +112,7 @@ static SUM: Form = Form::Shaped(
     &Form::Then(&Form::Rule(Rule::PRODUCT), &Form::Rule(Rule::SUMS)),
 );
 
-/// What an operand is shifted by, any number of times.
+/// The operators `<<` and `>>` after an operand, each with its right operand, any number of times.
 static SHIFTS: Form = Form::When(
     Look::But(&Look::Mark(Mark::Shl), &Look::Mark(Mark::ShlEq)),
     &Form::Then(
@@ -144,7 +144,7 @@ static SHIFT: Form = Form::Shaped(
     &Form::Then(&Form::Rule(Rule::SUM), &Form::Rule(Rule::SHIFTS)),
 );
 
-/// The operands behind `&`, any number of them.
+/// The operator `&` after an operand, with its right operand, any number of times.
 static BIT_ANDS: Form = Form::When(
     Look::But(
         &Look::Mark(Mark::And),
@@ -166,7 +166,7 @@ static BIT_AND: Form = Form::Shaped(
     &Form::Then(&Form::Rule(Rule::SHIFT), &Form::Rule(Rule::BIT_ANDS)),
 );
 
-/// The operands behind `^`, any number of them.
+/// The operator `^` after an operand, with its right operand, any number of times.
 static BIT_XORS: Form = Form::When(
     Look::But(&Look::Mark(Mark::Caret), &Look::Mark(Mark::CaretEq)),
     &Form::Then(
@@ -179,13 +179,13 @@ static BIT_XORS: Form = Form::When(
     &Form::Empty,
 );
 
-/// What `bit_and` reads with `^` between, grouped from the left.
+/// Operands of the form `bit_and` with `^` between them, grouped from the left.
 static BIT_XOR: Form = Form::Shaped(
     Shape::Chain,
     &Form::Then(&Form::Rule(Rule::BIT_AND), &Form::Rule(Rule::BIT_XORS)),
 );
 
-/// The operands behind `|`, any number of them.
+/// The operator `|` after an operand, with its right operand, any number of times.
 static BIT_ORS: Form = Form::When(
     Look::But(
         &Look::Mark(Mark::Or),
@@ -201,13 +201,13 @@ static BIT_ORS: Form = Form::When(
     &Form::Empty,
 );
 
-/// What `bit_xor` reads with `|` between, grouped from the left.
+/// Operands of the form `bit_xor` with `|` between them, grouped from the left.
 static BIT_OR: Form = Form::Shaped(
     Shape::Chain,
     &Form::Then(&Form::Rule(Rule::BIT_XOR), &Form::Rule(Rule::BIT_ORS)),
 );
 
-/// What an operand is compared with, once at most.
+/// A comparison operator after an operand, with its right operand, at most once.
 static COMPARED: Form = Form::When(
     Look::Mark(Mark::EqEq),
     &Form::Shaped(
@@ -267,13 +267,13 @@ static COMPARED_3: Form = Form::When(
     &Form::Part(Part::COMPARED_2),
 );
 
-/// A comparison: an operand, or two with `==`, `!=`, `<`, `>`, `<=` or `>=` between them.
+/// A comparison: one operand, or two with `==`, `!=`, `<`, `>`, `<=` or `>=` between them.
 static COMPARISON: Form = Form::Shaped(
     Shape::Chain,
     &Form::Then(&Form::Rule(Rule::BIT_OR), &Form::Rule(Rule::COMPARED)),
 );
 
-/// The operands behind `&&`, any number of them.
+/// The operator `&&` after an operand, with its right operand, any number of times.
 static CONJUNCTIONS: Form = Form::When(
     Look::Mark(Mark::AndAnd),
     &Form::Then(
@@ -295,7 +295,7 @@ static CONJUNCTION: Form = Form::Shaped(
     ),
 );
 
-/// The operands behind `||`, any number of them.
+/// The operator `||` after an operand, with its right operand, any number of times.
 static DISJUNCTIONS: Form = Form::When(
     Look::Mark(Mark::OrOr),
     &Form::Then(
@@ -308,7 +308,7 @@ static DISJUNCTIONS: Form = Form::When(
     &Form::Empty,
 );
 
-/// What `conjunction` reads with `||` between, grouped from the left.
+/// Operands of the form `conjunction` with `||` between them, grouped from the left.
 static DISJUNCTION: Form = Form::Shaped(
     Shape::Chain,
     &Form::Then(
@@ -317,7 +317,8 @@ static DISJUNCTION: Form = Form::Shaped(
     ),
 );
 
-/// What is assigned to an operand, by `=` or an operator with `=`; it groups from the right.
+/// An assignment after an operand, by `=` or a compound operator such as `+=`, with its right operand; it groups from
+/// the right.
 static ASSIGNED: Form = Form::When(
     Look::But(&Look::Mark(Mark::Eq), &Look::Mark(Mark::EqEq)),
     &Form::Shaped(
@@ -439,7 +440,7 @@ static ASSIGNED_5: Form = Form::When(
     ),
 );
 
-/// Any expression. Behind it no postfix and no comparison stands: behind a cast, or behind a comparison, these are
+/// Any expression. No postfix and no comparison operator may follow it: after a cast, or after a comparison, these are
 /// refused.
 static WHOLE_EXPRESSION: Form = Form::Shaped(
     Shape::Chain,

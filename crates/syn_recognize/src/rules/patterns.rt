@@ -18,7 +18,7 @@ use crate::token::Token;
 use crate::words::{Mark, Word};
 use syn_tokens::delimiter::Delimiter;
 
-/// A path in an expression or a pattern: `::` where it stands next, and then its words.
+/// A path in an expression or a pattern: an optional `::`, then its words.
 static EXPRESSION_PATH: Form = Form::Then(
     &Form::When(
         Look::Mark(Mark::PathSep),
@@ -29,8 +29,7 @@ static EXPRESSION_PATH: Form = Form::Then(
 );
 
 /// The words of a path in an expression or a pattern: each an identifier that isn't a keyword, or `Self`, with its
-/// arguments where `::` and `<` stand next; or `self`, `super` or `crate`; and where `::` stands next, that mark and
-/// more words.
+/// arguments if `::` and `<` are next; or `self`, `super` or `crate`; then, if `::` is next, that mark and more words.
 static EXPRESSION_WORDS: Form = Form::Then(
     &Form::Shaped(
         Shape::Untagged,
@@ -69,8 +68,8 @@ static EXPRESSION_WORDS_2: Form = Form::When(
     &Form::Empty,
 );
 
-/// A qualified path in an expression or a pattern: a type in `< >`, with `as` and a path behind it or without them;
-/// then `::` and words. An `as` that a tree made by hand holds without a path is not printed.
+/// A qualified path in an expression or a pattern: in `< >` a type and optionally `as` and a path; then `::` and words.
+/// An `as` that a tree built by hand has without a path is not printed.
 static QUALIFIED_EXPRESSION_PATH: Form = Form::Then(
     &Form::Mark(Mark::Lt),
     &Form::Then(
@@ -98,7 +97,7 @@ static QUALIFIED_EXPRESSION_PATH_1: Form = Form::Then(
     ),
 );
 
-/// A path as an expression: a qualified path where `<` stands next, or a path.
+/// A path as an expression: a qualified path if `<` is next, else a path.
 static PATH_AS_EXPRESSION: Form = Form::When(
     Look::Mark(Mark::Lt),
     &Form::Rule(Rule::QUALIFIED_EXPRESSION_PATH),
@@ -126,8 +125,8 @@ static MACRO_INVOCATION: Form = Form::Then(
     ),
 );
 
-/// A pattern: `_`; a tuple or a pattern in parentheses; a path, qualified or not, with patterns in parentheses behind
-/// it or without them; or a name, with `ref` or `mut` or both before it or without them, behind which no `::` stands.
+/// A pattern: `_`; a tuple or a pattern in parentheses; a path, qualified or not, optionally with patterns in
+/// parentheses; or a name that no `::` follows, optionally after `ref`, `mut` or both.
 static PATTERN: Form = Form::When(
     Look::Word(Word::Underscore),
     &Form::Token(Token::Word(Word::Underscore)),
@@ -183,7 +182,7 @@ static PATTERN_3: Form = Form::When(
     ),
 );
 
-/// Patterns, separated by commas; the last comma may stand or not.
+/// Patterns, separated by commas; a trailing comma is allowed.
 static PATTERNS: Form = Form::When(
     Look::Ended,
     &Form::Empty,

@@ -1,6 +1,6 @@
 //! Written by tools/recognizers.py; edits are lost.
 //!
-//! What stands before an expression, and behind it.
+//! Prefixes and postfixes of expressions.
 ghost use Rattle.std.specs.Prelude.{◌≡◌};
 ghost use Rattle.syn_grammar.specs.Run.{parse_form};
 ghost use Rattle.syn_grammar.specs.Table.{table};
@@ -17,7 +17,7 @@ use crate::token::Token;
 use crate::words::{Mark, Word};
 use syn_tokens::delimiter::Delimiter;
 
-/// What goes on an expression, any number of times: the arguments of a call, an index, `?`, or `.` and a member.
+/// Any number of postfixes: the arguments of a call, an index, `?`, or `.` and a member.
 static POSTFIXES: Form = Form::When(
     Look::Group(Delimiter::Paren),
     &Form::Then(
@@ -66,7 +66,7 @@ static POSTFIXES_3: Form = Form::When(
     &Form::Part(Part::POSTFIXES_2),
 );
 
-/// A member: the number or the name of a field; or the name of a method, generic arguments behind `::` or none, and
+/// A member: the number or the name of a field; or the name of a method, optionally `::` with generic arguments, and
 /// arguments in parentheses.
 static MEMBER: Form = Form::When(
     Look::Integer,
@@ -97,8 +97,8 @@ static MEMBER_2: Form = Form::Then(
     &Form::Part(Part::MEMBER_1),
 );
 
-/// A unary level: attributes, which belong to all of it; and `-`, `!`, `*`, `&` or `&mut` before another, or an
-/// expression with what goes on it.
+/// A unary level: attributes, which belong to all of it; then `-`, `!`, `*`, `&` or `&mut` and another unary level, or
+/// an expression with its postfixes.
 static UNARY: Form = Form::Shaped(
     Shape::Leading,
     &Form::Then(&Form::Rule(Rule::ATTRIBUTES), &Form::Part(Part::UNARY_3)),

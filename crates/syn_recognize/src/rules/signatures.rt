@@ -18,22 +18,22 @@ use crate::token::Token;
 use crate::words::{Mark, Word};
 use syn_tokens::delimiter::Delimiter;
 
-/// No attributes: `#` must not stand next. Attributes that a tree made by hand holds are printed.
+/// No attributes: `#` must not be next. Attributes that a tree built by hand has are printed.
 static NO_ATTRIBUTES: Form = Form::When(
     Look::Mark(Mark::Pound),
     &Form::Never(Fault::Unexpected),
     &Form::Unshown,
 );
 
-/// A receiver alone, before which no attributes are read.
+/// A receiver alone; no attributes are parsed before it.
 static RECEIVER: Form = Form::Then(
     &Form::Rule(Rule::NO_ATTRIBUTES),
     &Form::Rule(Rule::RECEIVER_REST),
 );
 
-/// A receiver behind its attributes: `&`, perhaps with a lifetime and `mut`, and `self`; or `self`, perhaps with `mut`
-/// before it and a type behind a colon. No `::` follows the `self`. Behind `&` a second `mut` that a tree made by hand
-/// holds is not printed.
+/// A receiver after its attributes: `&`, an optional lifetime, an optional `mut`, and `self`; or an optional `mut`,
+/// `self` and an optional colon with a type. No `::` follows the `self`. A second `mut` that a tree built by hand has
+/// after `&` is not printed.
 static RECEIVER_REST: Form = Form::When(
     Look::Mark(Mark::And),
     &Form::Part(Part::RECEIVER_REST_3),
@@ -90,8 +90,8 @@ static RECEIVER_REST_3: Form = Form::Then(
     ),
 );
 
-/// A parameter of a function: attributes, and a receiver; or a pattern, a colon and a type. Where a name stands before
-/// `<`, the type stands alone, and `_ :` before it counts as read.
+/// A parameter of a function: attributes, then a receiver; or a pattern, a colon and a type. If a name is followed by
+/// `<`, the parameter is a type alone, and the tree has `_ :` before it.
 static ARGUMENT: Form = Form::Then(
     &Form::Rule(Rule::ATTRIBUTES),
     &Form::When(
@@ -101,7 +101,7 @@ static ARGUMENT: Form = Form::Then(
     ),
 );
 
-/// The parameters of a function, separated by commas; the last comma may stand or not. A receiver stands first only.
+/// The parameters of a function, separated by commas; a trailing comma is allowed. Only the first may be a receiver.
 static INPUTS: Form = Form::Shaped(
     Shape::Parameters,
     &Form::When(Look::Ended, &Form::Empty, &Form::Part(Part::INPUTS_1)),
@@ -124,7 +124,7 @@ static INPUTS_1: Form = Form::Then(
     ),
 );
 
-/// The parameters behind the first, of which none is a receiver.
+/// The parameters after the first; none of them is a receiver.
 static LATER_INPUTS: Form = Form::Shaped(
     Shape::Parameters,
     &Form::When(
@@ -141,16 +141,16 @@ static LATER_INPUTS: Form = Form::Shaped(
     ),
 );
 
-/// A parameter that is no receiver, behind its attributes, and those that follow: a variadic one, with a pattern and a
-/// colon before it or without them; or a pattern, a colon and a type, and behind a comma the others. Where a name
-/// stands before `<`, the type stands alone, and `_ :` before it counts as read.
+/// A parameter other than a receiver, after its attributes, and those that follow: a variadic one, with an optional
+/// pattern and colon; or a pattern, a colon and a type, and after a comma the other parameters. If a name is followed
+/// by `<`, the parameter is a type alone, and the tree has `_ :` before it.
 static INPUT_REST: Form = Form::When(
     Look::Mark(Mark::DotDotDot),
     &Form::Rule(Rule::VARIADIC),
     &Form::Supplied(Nameless::Input),
 );
 
-/// `...`, and perhaps a comma, and nothing behind them.
+/// `...` and an optional comma, with nothing after them.
 static VARIADIC: Form = Form::Then(
     &Form::Mark(Mark::DotDotDot),
     &Form::Then(
@@ -163,20 +163,20 @@ static VARIADIC: Form = Form::Then(
     ),
 );
 
-/// An ABI: `extern`, with a string behind it or without one.
+/// An ABI: `extern` and an optional string.
 static ABI: Form = Form::Then(
     &Form::Token(Token::Word(Word::Extern)),
     &Form::When(Look::StrLiteral, &Form::Token(Token::Str), &Form::Empty),
 );
 
-/// `unsafe` where it stands next, or nothing.
+/// `unsafe` if it is next, or nothing.
 static UNSAFE_ONLY: Form = Form::When(
     Look::Word(Word::Unsafe),
     &Form::Shaped(Shape::Untagged, &Form::Token(Token::Word(Word::Unsafe))),
     &Form::Empty,
 );
 
-/// `safe` or `unsafe` where it stands next, or nothing.
+/// `safe` or `unsafe` if one is next, or nothing.
 static SAFE_OR_UNSAFE: Form = Form::When(
     Look::Or(&Look::Word(Word::Safe), &Look::Word(Word::Unsafe)),
     &Form::Shaped(
@@ -190,7 +190,7 @@ static SAFE_OR_UNSAFE: Form = Form::When(
     &Form::Empty,
 );
 
-/// A signature: `const`, `async`, `unsafe` and an ABI, each of them or not, and what begins with `fn`.
+/// A signature: `const`, `async`, `unsafe` and an ABI, all optional, and the part that begins with `fn`.
 static SIGNATURE: Form = Form::Then(
     &Form::When(
         Look::Word(Word::Const),
@@ -220,8 +220,8 @@ static SIGNATURE_1: Form = Form::Then(
     ),
 );
 
-/// What follows a signature's modifiers: `fn`, a name, generics, parameters in parentheses, a return type and a where
-/// clause.
+/// The part of a signature after its modifiers: `fn`, a name, generics, parameters in parentheses, a return type and a
+/// where clause.
 static SIGNATURE_REST: Form = Form::Then(
     &Form::Token(Token::Word(Word::Fn)),
     &Form::Part(Part::SIGNATURE_REST_1),

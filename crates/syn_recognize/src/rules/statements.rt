@@ -19,7 +19,7 @@ use crate::token::Token;
 use crate::words::{Mark, Word};
 use syn_tokens::delimiter::Delimiter;
 
-/// What may follow the first operand of a statement that begins with a block or a macro in braces: postfixes, casts and
+/// The part after the first operand of a statement that begins with a block or a macro in braces: postfixes, casts and
 /// operators of each level.
 static OPERAND_REST: Form = Form::Then(
     &Form::Rule(Rule::POSTFIXES),
@@ -59,8 +59,8 @@ static OPERAND_REST_2: Form = Form::Then(
     ),
 );
 
-/// Statements to the end: none; `;` alone and more; or one, its attributes first, and more. An item that is kept as
-/// tokens is kept with its attributes.
+/// Statements to the end: none; `;` alone and more; or one, its attributes first, and more. An item that is stored
+/// verbatim includes its attributes.
 static STATEMENTS: Form = Form::When(
     Look::Ended,
     &Form::Empty,
@@ -77,8 +77,8 @@ static STATEMENTS: Form = Form::When(
     ),
 );
 
-/// A statement that is no item, behind its attributes, and the statements that follow: a macro in braces, a local, a
-/// block or what ends with one, or an expression.
+/// A statement other than an item, after its attributes, and the statements that follow: a macro in braces, a local, a
+/// block or an expression that ends with one, or another expression.
 static STATEMENT_REST: Form = Form::When(
     Look::CrateMacro,
     &Form::Part(Part::STATEMENT_REST_3),
@@ -143,8 +143,8 @@ static STATEMENT_REST_3: Form = Form::Shaped(
     ),
 );
 
-/// What follows a block or a macro in braces, in a list of statements: `;` and more; what goes on it, and what follows
-/// an expression; or more.
+/// The part after a block or a macro in braces in a list of statements: `;` and more; postfixes and operators, then
+/// `after_expression`; or more.
 static AFTER_BLOCK: Form = Form::When(
     Look::Mark(Mark::Semi),
     &Form::Then(&Form::Mark(Mark::Semi), &Form::Rule(Rule::STATEMENTS)),
@@ -158,20 +158,20 @@ static AFTER_BLOCK: Form = Form::When(
     ),
 );
 
-/// What follows an expression, in a list of statements: `;` and more, or the end.
+/// The part after an expression in a list of statements: `;` and more, or the end.
 static AFTER_EXPRESSION: Form = Form::When(
     Look::Mark(Mark::Semi),
     &Form::Then(&Form::Mark(Mark::Semi), &Form::Rule(Rule::STATEMENTS)),
     &Form::When(Look::Ended, &Form::Empty, &Form::Never(Fault::MissingEnd)),
 );
 
-/// A statement alone: an item, which is kept as tokens with its attributes, or is of a kind; or attributes, and a macro
-/// in braces, a block or what ends with one, with `;` or without it; one of these that goes on, or another expression,
-/// with `;`; or a local.
+/// A single statement: an item, with its attributes, verbatim or of a kind; or attributes, and one of these: a macro in
+/// braces, a block or an expression that ends with one, with an optional `;`; one of these with postfixes or operators,
+/// or another expression, with `;`; or a local.
 static STATEMENT: Form = Form::Planned(Planned::Statement);
 
-/// A macro of `crate` with a group in braces, as a statement alone: a macro, with `;` or without it; but where what
-/// goes on an expression stands next, an item, and that is left.
+/// A macro of `crate` with a group in braces, as a single statement: a macro, with an optional `;`. But if a token that
+/// continues an expression follows, it is an item, and that token is not consumed.
 static CRATE_MACRO: Form = Form::Planned(Planned::CrateMacro);
 
 /// A macro with a group in braces.
@@ -195,7 +195,8 @@ static BRACE_MACRO: Form = Form::Then(
     ),
 );
 
-/// What follows a block or a macro in braces, in a statement alone: `;`; what goes on it, and `;`; or nothing.
+/// The part after a block or a macro in braces in a single statement: `;`; postfixes and operators, and `;`; or
+/// nothing.
 static STATEMENT_END: Form = Form::When(
     Look::Mark(Mark::Semi),
     &Form::MarkElse(Mark::Semi, Fault::MissingSemi),
@@ -209,8 +210,8 @@ static STATEMENT_END: Form = Form::When(
     ),
 );
 
-/// A local: `let`, a pattern with a type behind a colon or without one, `=` and an expression or none, and `;`. Behind
-/// an expression that doesn't end with braces, `else` and a block may stand.
+/// A local: `let`, a pattern, an optional colon with a type, an optional `=` with an expression, and `;`. After an
+/// expression that doesn't end with braces, `else` and a block may follow.
 static LOCAL: Form = Form::Then(
     &Form::Token(Token::Word(Word::Let)),
     &Form::Then(

@@ -18,8 +18,8 @@ use crate::rules::{Part, Rule};
 use crate::token::Token;
 use crate::words::{Mark, Word};
 
-/// A function of a trait behind its attributes: a signature, and `;` or a body. Modifiers, and a semicolon with the
-/// body, that a tree made by hand holds are not printed.
+/// A function of a trait after its attributes: a signature, and `;` or a body. Modifiers, and a semicolon with the
+/// body, that a tree built by hand has are not printed.
 static BARE_TRAIT_FUNCTION: Form = Form::Then(
     &Form::Unshown,
     &Form::Then(
@@ -32,9 +32,9 @@ static BARE_TRAIT_FUNCTION: Form = Form::Then(
     ),
 );
 
-/// A type of a trait behind its attributes: `type`, a name, generics, bounds behind a colon, perhaps a type behind `=`,
-/// a where clause and `;`. Without bounds the colon isn't printed. Modifiers that a tree made by hand holds are not
-/// printed.
+/// A type of a trait after its attributes: `type`, a name, generics, an optional colon with bounds, an optional `=`
+/// with a type, a where clause and `;`. Without bounds the colon isn't printed. Modifiers that a tree built by hand has
+/// are not printed.
 static BARE_TRAIT_TYPE: Form = Form::Then(
     &Form::Unshown,
     &Form::Then(
@@ -62,8 +62,8 @@ static BARE_TRAIT_TYPE_1: Form = Form::Then(
     ),
 );
 
-/// A constant of a trait: attributes, `const`, a name or `_`, a type, perhaps a value, and `;`. Modifiers and generics
-/// that a tree made by hand holds are not printed.
+/// A constant of a trait: attributes, `const`, a name or `_`, a type, an optional value, and `;`. Modifiers and
+/// generics that a tree built by hand has are not printed.
 static TRAIT_CONST: Form = Form::Then(
     &Form::Rule(Rule::ATTRIBUTES),
     &Form::Then(
@@ -106,7 +106,7 @@ static TRAIT_TYPE: Form = Form::Then(
     &Form::Rule(Rule::BARE_TRAIT_TYPE),
 );
 
-/// A macro as a member of a trait, of any path: attributes and the macro.
+/// A macro as a member of a trait, with any path: attributes and the macro.
 static TRAIT_MACRO: Form = Form::Then(
     &Form::Rule(Rule::ATTRIBUTES),
     &Form::Rule(Rule::MEMBER_MACRO),
@@ -122,8 +122,8 @@ static TRAIT_MACRO_AS_ITEM: Form = Form::Then(
     ),
 );
 
-/// A constant with all that may stand in one: `const`, a name or `_`, perhaps generics, a type, perhaps a value and a
-/// where clause, and `;`.
+/// A constant with every optional part: `const`, a name or `_`, optional generics, a type, an optional value and where
+/// clause, and `;`.
 static ANY_CONST: Form = Form::Then(
     &Form::Token(Token::Word(Word::Const)),
     &Form::Then(
@@ -168,7 +168,7 @@ static ANY_CONST_2: Form = Form::Then(
     ),
 );
 
-/// A constant of a trait with generics or with a where clause, which is kept as tokens, behind its attributes.
+/// A constant of a trait with generics or with a where clause, which is stored verbatim, after its attributes.
 static ODD_TRAIT_CONST: Form = Form::Then(
     &Form::When(
         Look::Word(Word::Pub),
@@ -245,7 +245,7 @@ static ODD_TRAIT_CONST_4: Form = Form::Then(
     ),
 );
 
-/// A member of a trait: one of its kinds, or one that is kept as tokens.
+/// A member of a trait: one of its kinds, or one that is stored verbatim.
 static TRAIT_ITEM: Form = Form::Planned(Planned::TraitItem);
 
 /// Members of a trait, to the end.

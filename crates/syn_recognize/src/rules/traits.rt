@@ -17,8 +17,8 @@ use crate::token::Token;
 use crate::words::{Mark, Word};
 use syn_tokens::delimiter::Delimiter;
 
-/// The bounds of a trait, joined by `+`, up to what ends them at the start or behind a `+`; they may be none, and may
-/// end with `+`.
+/// The bounds of a trait, joined by `+`, up to a token that ends them at the start or after a `+`; the list may be
+/// empty, and may end with `+`.
 static SUPERTRAITS: Form = Form::When(
     Look::Or(&Look::Word(Word::Where), &Look::Group(Delimiter::Brace)),
     &Form::Empty,
@@ -32,8 +32,8 @@ static SUPERTRAITS: Form = Form::When(
     ),
 );
 
-/// A trait without what stands before `unsafe`: perhaps `unsafe`, perhaps `auto`, `trait`, a name, generics, bounds
-/// behind a colon, a where clause, and inner attributes and members in braces. Without bounds the colon isn't printed.
+/// A trait from `unsafe` on: `unsafe` and `auto`, both optional, `trait`, a name, generics, an optional colon with
+/// bounds, a where clause, and inner attributes and members in braces. Without bounds the colon isn't printed.
 static BARE_TRAIT: Form = Form::Then(
     &Form::When(
         Look::Word(Word::Unsafe),
@@ -74,13 +74,13 @@ static BARE_TRAIT_2: Form = Form::Then(
     ),
 );
 
-/// A trait: attributes, and what stands behind them.
+/// A trait with its attributes.
 static TRAIT_DEFINITION: Form = Form::Then(
     &Form::Rule(Rule::ATTRIBUTES),
     &Form::Rule(Rule::TRAIT_DEFINITION_REST),
 );
 
-/// A trait behind its attributes: a visibility, perhaps `const`, and the trait.
+/// A trait after its attributes: a visibility, an optional `const`, and the trait.
 static TRAIT_DEFINITION_REST: Form = Form::Then(
     &Form::Rule(Rule::VISIBILITY),
     &Form::Then(
@@ -93,7 +93,7 @@ static TRAIT_DEFINITION_REST: Form = Form::Then(
     ),
 );
 
-/// A trait alias with `const`, which is kept as tokens, behind its attributes: a visibility, `const`, and the alias.
+/// A trait alias with `const`, which is stored verbatim, after its attributes: a visibility, `const`, and the alias.
 static CONST_ALIAS: Form = Form::Then(
     &Form::Rule(Rule::VISIBILITY),
     &Form::Then(
@@ -102,8 +102,8 @@ static CONST_ALIAS: Form = Form::Then(
     ),
 );
 
-/// A trait with a restriction, which is kept as tokens, behind its attributes: a visibility, `impl`, the restriction in
-/// parentheses, perhaps `const`, and the trait.
+/// A trait with a restriction, which is stored verbatim, after its attributes: a visibility, `impl`, the restriction in
+/// parentheses, an optional `const`, and the trait.
 static RESTRICTED_TRAIT: Form = Form::Then(
     &Form::Rule(Rule::VISIBILITY),
     &Form::Then(

@@ -19,7 +19,7 @@ use crate::token::Token;
 use crate::words::{Mark, Word};
 use syn_tokens::delimiter::Delimiter;
 
-/// A path in a type: `::` where it stands next, and then its words with their arguments.
+/// A path in a type: an optional `::`, then its words with their arguments.
 static TYPE_PATH: Form = Form::Then(
     &Form::When(
         Look::Mark(Mark::PathSep),
@@ -29,8 +29,8 @@ static TYPE_PATH: Form = Form::Then(
     &Form::Rule(Rule::TYPE_WORDS),
 );
 
-/// The words of a path in a type: each an identifier that isn't a keyword, or `Self`, with its arguments where they
-/// stand next; or `self`, `super` or `crate`; and where `::` stands next, that mark and more words.
+/// The words of a path in a type: each an identifier that isn't a keyword, or `Self`, with its arguments if they are
+/// next; or `self`, `super` or `crate`; then, if `::` is next, that mark and more words.
 static TYPE_WORDS: Form = Form::Then(
     &Form::Shaped(
         Shape::Untagged,
@@ -69,7 +69,7 @@ static TYPE_WORDS_2: Form = Form::When(
     &Form::Empty,
 );
 
-/// The words of a path in a type behind `::`, which are read as its first ones.
+/// The words of a path in a type after `::`; they have the form of the first ones.
 static MORE_TYPE_WORDS: Form = Form::Then(
     &Form::Shaped(
         Shape::Untagged,
@@ -109,7 +109,7 @@ static MORE_TYPE_WORDS_2: Form = Form::When(
 );
 
 /// The arguments of a word in a type's path: types in parentheses and a return type; or generic arguments in `< >`,
-/// with `::` before them or without it. (A path asks for them only where they stand next.)
+/// with an optional `::` before them. (A path parses this only if arguments are next.)
 static TYPE_ARGUMENTS: Form = Form::When(
     Look::Group(Delimiter::Paren),
     &Form::Then(
@@ -133,11 +133,11 @@ static RETURN_TYPE: Form = Form::When(
     &Form::Empty,
 );
 
-/// Generic arguments in `< >`: lifetimes and others in any order, separated by commas; the last comma may stand or not.
+/// Generic arguments in `< >`: lifetimes and others in any order, separated by commas; a trailing comma is allowed.
 /// Lifetimes are printed first.
 static GENERIC_ARGUMENTS: Form = Form::Ordered(List::Arguments);
 
-/// A generic argument that isn't a lifetime: a name, `=` and a type, where `=` follows the name; a constant; or a type.
+/// A generic argument that isn't a lifetime: a name, `=` and a type, if `=` follows the name; a constant; or a type.
 static GENERIC_ARGUMENT: Form = Form::When(
     Look::Association,
     &Form::Then(
@@ -157,8 +157,8 @@ static GENERIC_ARGUMENT: Form = Form::When(
     ),
 );
 
-/// A qualified path in a type: a type in `< >`, with `as` and a path behind it or without them; then `::` and words. An
-/// `as` that a tree made by hand holds without a path is not printed.
+/// A qualified path in a type: in `< >` a type and optionally `as` and a path; then `::` and words. An `as` that a tree
+/// built by hand has without a path is not printed.
 static QUALIFIED_PATH: Form = Form::Then(
     &Form::Mark(Mark::Lt),
     &Form::Then(&Form::Rule(Rule::TYPE), &Form::Part(Part::QUALIFIED_PATH_1)),
@@ -180,14 +180,14 @@ static QUALIFIED_PATH_1: Form = Form::Then(
     ),
 );
 
-/// A path as a type: a qualified path where `<` stands next, or a path.
+/// A path as a type: a qualified path if `<` is next, else a path.
 static PATH_AS_TYPE: Form = Form::When(
     Look::Mark(Mark::Lt),
     &Form::Rule(Rule::QUALIFIED_PATH),
     &Form::Rule(Rule::TYPE_PATH),
 );
 
-/// A type: a reference, perhaps with a lifetime and `mut`; a pointer, `const` or `mut`; a tuple or a type in
+/// A type: a reference, with an optional lifetime and optional `mut`; a pointer, `const` or `mut`; a tuple or a type in
 /// parentheses; a slice, or an array with an expression as its length; the never type; an invisible group that holds a
 /// type; or a path, qualified or not.
 static TYPE: Form = Form::When(
@@ -258,7 +258,7 @@ static TYPE_3: Form = Form::Then(
     ),
 );
 
-/// Types, separated by commas; the last comma may stand or not.
+/// Types, separated by commas; a trailing comma is allowed.
 static TYPES: Form = Form::When(
     Look::Ended,
     &Form::Empty,
@@ -272,7 +272,7 @@ static TYPES: Form = Form::When(
     ),
 );
 
-/// A constant: a block, a literal, `true` or `false`. As a value it is an expression, and no attributes are read before
+/// A constant: a block, a literal, `true` or `false`. Its value is an expression, and no attributes are parsed before
 /// it.
 static CONSTANT: Form = Form::Shaped(
     Shape::Choice,

@@ -14,9 +14,9 @@ use crate::token::Token;
 use crate::words::Word;
 use syn_tokens::delimiter::Delimiter;
 
-/// A visibility: `pub` with its restriction in parentheses, `pub` alone, or nothing. Parentheses belong to it where
-/// they hold `crate`, `self` or `super` alone, or begin with `in`; then they must hold a restriction. Any others are
-/// left. An invisible group without content stands for one that isn't written, and is never printed.
+/// A visibility: `pub` with its restriction in parentheses, `pub` alone, or nothing. Parentheses belong to it if they
+/// hold `crate`, `self` or `super` alone, or begin with `in`; then they must hold a restriction. Other parentheses are
+/// not consumed. An empty invisible group represents an omitted visibility and is never printed.
 static VISIBILITY: Form = Form::When(
     Look::Word(Word::Pub),
     &Form::Then(
@@ -33,8 +33,8 @@ static VISIBILITY: Form = Form::When(
     ),
 );
 
-/// What the parentheses of a visibility hold: `in` where it stands next, and a path in module style. (A visibility asks
-/// for it only before `in`, or where `crate`, `self` or `super` stands alone.)
+/// The content of a visibility's parentheses: an optional `in`, and a path in module style. (A visibility parses this
+/// only before `in`, or if `crate`, `self` or `super` is alone in the parentheses.)
 static RESTRICTION: Form = Form::Then(
     &Form::When(
         Look::Word(Word::In),

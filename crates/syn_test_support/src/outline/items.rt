@@ -1,14 +1,11 @@
-//! Items and files. A word or a mark tells of most items which they are; before a macro and before what is kept as tokens stands what
-//! it is called.
+//! Items that `kinds` has no outline of, and files. Most items begin with a word or a mark of their own; before a macro and before verbatim
+//! tokens the outline names the type.
 
-use super::parts::{
-    node, show_bounds, show_mark, show_modifier, show_rename, show_semi, show_type, show_word,
-};
+use super::parts::{show_bounds, show_mark, show_modifier, show_semi, show_type, show_word};
 use crate::outline::{Outlined, TreeText};
 use syn::file::File;
 use syn::item::{
-    Item, ItemConst, ItemExternCrate, ItemFn, ItemForeignMod, ItemImpl, ItemMacro, ItemMod,
-    ItemStatic, ItemTrait, ItemTraitAlias, ItemType, ItemUse, Items, StaticMutability,
+    ItemForeignMod, ItemImpl, ItemMod, ItemTrait, ItemType, Items, StaticMutability,
     WhereClausePlacement,
 };
 
@@ -31,69 +28,12 @@ impl Outlined for Items {
     }
 }
 
-impl Outlined for Item {
-    fn show(&self, out: &mut TreeText) {
-        match self {
-            Item::Const(item) => item.show(out),
-            Item::Enum(item) => item.show(out),
-            Item::ExternCrate(item) => item.show(out),
-            Item::Fn(item) => item.show(out),
-            Item::ForeignMod(item) => item.show(out),
-            Item::Impl(item) => item.show(out),
-            Item::Macro(item) => item.show(out),
-            Item::Mod(item) => item.show(out),
-            Item::Static(item) => item.show(out),
-            Item::Struct(item) => item.show(out),
-            Item::Trait(item) => item.show(out),
-            Item::TraitAlias(item) => item.show(out),
-            Item::Ty(item) => item.show(out),
-            Item::Union(item) => item.show(out),
-            Item::Use(item) => item.show(out),
-            Item::Verbatim(tokens) => {
-                out.word("Verbatim");
-                tokens.show(out);
-            }
-        }
-    }
-}
-
-impl Outlined for ItemConst {
-    fn show(&self, out: &mut TreeText) {
-        out.attributes(&self.attrs);
-        self.vis.show(out);
-        show_modifier(&self.modifiers.defaultness, out);
-        out.token("const", self.const_token.span);
-        self.ident.show(out);
-        self.generics.show(out);
-        out.mark(":", &self.colon_token);
-        show_type(&self.ty, out);
-        out.mark("=", &self.eq_token);
-        self.expr.show(out);
-        out.mark(";", &self.semi_token);
-    }
-}
-
 impl Outlined for StaticMutability {
     fn show(&self, out: &mut TreeText) {
         match self {
             StaticMutability::Mut(token) => out.token("mut", token.span),
             StaticMutability::None => {}
         }
-    }
-}
-
-impl Outlined for ItemStatic {
-    fn show(&self, out: &mut TreeText) {
-        out.attributes(&self.attrs);
-        self.vis.show(out);
-        out.token("static", self.static_token.span);
-        self.mutability.show(out);
-        self.ident.show(out);
-        out.mark(":", &self.colon_token);
-        show_type(&self.ty, out);
-        out.mark("=", &self.eq_token);
-        self.expr.show(out);
-        out.mark(";", &self.semi_token);
     }
 }
 
@@ -113,39 +53,6 @@ impl Outlined for ItemType {
         out.mark("=", &self.eq_token);
         show_type(&self.ty, out);
         out.mark(";", &self.semi_token);
-    }
-}
-
-impl Outlined for ItemUse {
-    fn show(&self, out: &mut TreeText) {
-        out.attributes(&self.attrs);
-        self.vis.show(out);
-        out.token("use", self.use_token.span);
-        show_mark("::", &self.leading_colon, out);
-        self.tree.show(out);
-        out.mark(";", &self.semi_token);
-    }
-}
-
-impl Outlined for ItemExternCrate {
-    fn show(&self, out: &mut TreeText) {
-        out.attributes(&self.attrs);
-        self.vis.show(out);
-        out.token("extern", self.extern_token.span);
-        out.token("crate", self.crate_token.span);
-        self.ident.show(out);
-        show_rename(&self.rename, out);
-        out.mark(";", &self.semi_token);
-    }
-}
-
-impl Outlined for ItemFn {
-    fn show(&self, out: &mut TreeText) {
-        out.attributes(&self.attrs);
-        self.vis.show(out);
-        show_modifier(&self.modifiers.defaultness, out);
-        self.sig.show(out);
-        self.block.show(out);
     }
 }
 
@@ -176,28 +83,6 @@ impl Outlined for ItemForeignMod {
             member.show(out);
         }
         out.token("}", self.brace_token.closing);
-    }
-}
-
-impl Outlined for ItemMacro {
-    fn show(&self, out: &mut TreeText) {
-        node("ItemMacro", &self.attrs, out);
-        self.ident.show(out);
-        self.mac.show(out);
-        show_semi(&self.semi_token, out);
-    }
-}
-
-impl Outlined for ItemTraitAlias {
-    fn show(&self, out: &mut TreeText) {
-        out.attributes(&self.attrs);
-        self.vis.show(out);
-        out.token("trait", self.trait_token.span);
-        self.ident.show(out);
-        self.generics.show(out);
-        out.mark("=", &self.eq_token);
-        show_bounds(&self.bounds, out);
-        out.mark(";", &self.semi_token);
     }
 }
 

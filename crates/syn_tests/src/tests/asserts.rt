@@ -1,8 +1,8 @@
 //! What tests assert, and how they take their values.
 //!
-//! Each test is proved, and a proof grows with every way out of a function and with what is owned there. So a test answers
+//! Each test is proved, and a proof grows with every way out of a function and with what is owned there. So a test returns
 //! nothing: it takes its values by `value`, and hands trees to functions that assert, which are proved once for trees of all
-//! types. Where memory is refused, `value` says so, and `tools/scarce_memory.py` tells that from other failures.
+//! types. Where memory is refused, `value` says so, and a script tells that from other failures.
 use std::alloc::Global;
 use std::fmt::Debug;
 use std::process::Abort;
@@ -12,12 +12,12 @@ use syn::token::{Delimiter, Span, TokenStream};
 use syn::{Error, ToTokens, TryClone};
 use syn_test_support::{parsed, print_shown, printed, push_group};
 
-/// What the answer holds. A refusal fails the test, and is shown.
+/// What the result holds. A refusal fails the test, and is shown.
 pub fn value<T, E: Debug>(rt: &impl Abort, answer: Result<T, E>) -> T {
     answer.expect(rt, "an answer")
 }
 
-/// Where the answer is refused as nested too deep. Any other answer fails the test, and where it is refused it is shown.
+/// Where the result is refused as nested too deep. Any other result fails the test, and where it is refused it is shown.
 pub fn too_deep_at<T: Drop>(rt: &impl Abort, answer: Result<T, Error>) -> Span {
     match answer {
         Ok(_value) => panic!(rt; "not refused as nested too deep"),
@@ -40,7 +40,7 @@ pub fn tokens_of(rt: &impl Abort, alloc: Global, text: &str) -> TokenStream {
     value(rt, read_tokens(alloc, text))
 }
 
-/// The tokens of a text, and behind them a group that holds those of another.
+/// The tokens of a text, and after them a group that holds those of another.
 pub fn grouped(
     rt: &impl Abort,
     alloc: Global,

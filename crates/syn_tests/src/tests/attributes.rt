@@ -21,7 +21,7 @@ fn inner(rt: &impl Abort, alloc: Global, text: &str) -> Vec<Attribute> {
     value(rt, Attribute::parse_inner(&mut ParseBuffer::new(&tokens)))
 }
 
-/// All of these, one behind the other.
+/// All of these, one after the other.
 fn joined(rt: &impl Abort, mut first: Vec<Attribute>, second: Vec<Attribute>) -> Vec<Attribute> {
     for attr in second {
         value(rt, first.push(attr));
@@ -29,7 +29,7 @@ fn joined(rt: &impl Abort, mut first: Vec<Attribute>, second: Vec<Attribute>) ->
     first
 }
 
-/// `#[a]`, with an empty group behind the `a`.
+/// `#[a]`, with an empty group after the `a`.
 fn with_group(rt: &impl Abort, alloc: Global, delimiter: Delimiter) -> TokenStream {
     let content = grouped(rt, alloc, "a", delimiter, "");
     let mut tokens = tokens_of(rt, alloc, "#");
@@ -37,7 +37,7 @@ fn with_group(rt: &impl Abort, alloc: Global, delimiter: Delimiter) -> TokenStre
     tokens
 }
 
-/// The group behind an attribute's path has delimiters.
+/// The group after an attribute's path has delimiters.
 #[test]
 fn groups_by_hand(rt: HostRuntime) {
     for delimiter in [Delimiter::Paren, Delimiter::Brace, Delimiter::Bracket] {

@@ -5,7 +5,7 @@ use std::alloc::{AllocError, Global};
 use syn::{Block, Expr, parse2};
 use syn_parse::limits::{LINK, STACK};
 
-/// Links, and at which of their bytes stands the token that is refused.
+/// Links, and the byte of the token that is refused.
 const LINKS: &[(&str, usize)] = &[
     (" + a", 1),
     (" && a", 1),
@@ -19,7 +19,7 @@ const LINKS: &[(&str, usize)] = &[
     ("?", 0),
 ];
 
-/// How many links may stand above each other.
+/// How many links may be above each other.
 fn most() -> usize {
     fit(STACK, 4 * LINK)
 }
@@ -46,7 +46,7 @@ fn longer_ones_are_refused(rt: HostRuntime) {
     }
 }
 
-/// So many links behind parentheses with half as many as fit.
+/// So many links after parentheses with half as many as fit.
 fn behind_half(alloc: Global, count: usize) -> Result<String, AllocError> {
     let inside = repeated(alloc, most() / 2, "", "a", " + a")?;
     let group = repeated(alloc, 1, "(", inside.as_str(), ")")?;
@@ -63,7 +63,7 @@ fn chains_in_chains(rt: HostRuntime) {
     assert_too_deep::<Expr>(&rt, rt.alloc(), text.as_str(), start);
 }
 
-/// What repeats in a text without making a chain: what stands around it, and as what it is read.
+/// What repeats in a text without making a chain: what encloses it, and as what it is read.
 const APART: &[(&str, &str, &str)] = &[
     ("[", "a + a, ", "a]"),
     ("m!(", "+ a.b - ", "a)"),
@@ -113,9 +113,9 @@ fn commas_in_generic_arguments(rt: HostRuntime) {
     }
 }
 
-/// What a label or an attribute stands before may be generic arguments.
+/// What a label or an attribute is before may be generic arguments.
 #[test]
-fn commas_behind_labels(rt: HostRuntime) {
+fn commas_after_labels(rt: HostRuntime) {
     let text = value(
         &rt,
         repeated(rt.alloc(), 10_000, "", "a", " + break 'a <B<C, D>>::E"),
@@ -126,7 +126,7 @@ fn commas_behind_labels(rt: HostRuntime) {
     );
 }
 
-/// A `<` behind a `:` may open generic arguments, which a comma doesn't end.
+/// A `<` after a `:` may open generic arguments, which a comma doesn't end.
 #[test]
 fn a_comma_behind_an_angle(rt: HostRuntime) {
     let part = "a::b < c, ";

@@ -36,7 +36,7 @@ fn read_and_written(rt: HostRuntime) {
     assert!(rt; value(&rt, token_text(&tokens)).len() == 4 * DEEP - 1);
 }
 
-/// What stands around a type: references, pointers, groups and arguments.
+/// What encloses a type: references, pointers, groups and arguments.
 const AROUND: &[(&str, &str)] = &[
     ("&", ""),
     ("*const ", ""),
@@ -76,7 +76,7 @@ fn types(rt: HostRuntime) {
     }
 }
 
-/// How many may be read in each other, where one takes so many KiB of stack.
+/// How many may be read nested, where one takes so many KiB of stack.
 fn most(kib: u32) -> usize {
     fit(STACK, kib)
 }
@@ -86,7 +86,7 @@ pub fn fit(all: u32, kib: u32) -> usize {
     all.checked_div(kib).unwrap_or(0) as usize
 }
 
-/// How many may stand around the innermost one.
+/// How many may enclose the innermost one.
 fn around(kib: u32) -> usize {
     most(kib).saturating_sub(1)
 }
@@ -98,8 +98,8 @@ pub fn assert_too_deep<T: Parse + Drop>(rt: &impl Abort, alloc: Global, text: &s
     assert!(rt; span.start == start, "{text}");
 }
 
-/// Fails where one more than fit, of so many KiB each, aren't refused as nested too deep, nor far more; each stands right behind what
-/// stands before it.
+/// Fails where one more than fit, of so many KiB each, aren't refused as nested too deep, nor far more; each is right after what
+/// is before it.
 fn assert_limited<T: Parse + Drop>(
     rt: &impl Abort,
     alloc: Global,
@@ -120,7 +120,7 @@ fn deeper_types_are_refused(rt: HostRuntime) {
     }
 }
 
-/// What stands around an expression.
+/// What encloses an expression.
 const AROUND_EXPRESSIONS: &[(&str, &str)] = &[
     ("(", ")"),
     ("(", ", a)"),
@@ -148,7 +148,7 @@ fn deeper_expressions_are_refused(rt: HostRuntime) {
     }
 }
 
-/// An `if` with as many more behind `else` that there are so many in all.
+/// An `if` with as many more after `else` that there are so many in all.
 fn chain_of_ifs(alloc: Global, count: usize) -> Result<String, AllocError> {
     repeated(alloc, count, "if a {} else ", "{}", "")
 }
@@ -168,7 +168,7 @@ fn chains_of_else_if(rt: HostRuntime) {
     );
 }
 
-/// A cast to a type behind so many `&`, in so many parentheses.
+/// A cast to a type after so many `&`, in so many parentheses.
 fn cast(alloc: Global, references: usize, depth: usize) -> Result<String, AllocError> {
     let mut text = String::new(alloc);
     text.push_str("a as ")?;
@@ -197,7 +197,7 @@ fn local(alloc: Global, depth: usize) -> Result<String, AllocError> {
     Ok(text)
 }
 
-/// The statements that a pattern stands in count as an expression.
+/// The statements that a pattern is in count as an expression.
 #[test]
 fn patterns(rt: HostRuntime) {
     let left = fit(STACK.saturating_sub(EXPRESSION), PATTERN);

@@ -17,7 +17,7 @@ fn constant(rt: &impl Abort, alloc: Global, text: &str) -> Result<DeferredConsta
     DeferredConstant::new(&expr, alloc)
 }
 
-/// What the constant stands for.
+/// What the constant represents.
 fn opened(rt: &impl Abort, constant: Result<DeferredConstant>) -> Expr {
     value(rt, value(rt, constant).open())
 }
@@ -68,7 +68,7 @@ fn length(ty: &Type) -> Result<Expr> {
     }
 }
 
-/// The length of the array that stands in this expression, behind `as`.
+/// The length of the array that is in this expression, after `as`.
 fn cast_length(expr: &Expr) -> Result<Expr> {
     match expr {
         Expr::Cast(cast) => length(&cast.ty),

@@ -38,7 +38,7 @@ fn assert_same_print<T: ToTokens, U: ToTokens>(
     assert_text(rt, print_shown(alloc, tree), want.as_str());
 }
 
-/// The items of a module, opened: each is of its kind, and tokens stand where they stood.
+/// The items of a module, opened: each is of its kind, and spans are kept.
 #[test]
 fn module(rt: HostRuntime) {
     let deferred = content(&rt, rt.alloc(), MODULE);
@@ -119,7 +119,7 @@ fn item_among_statements(rt: HostRuntime) {
     assert_same_print(&rt, rt.alloc(), &item, &stmt);
 }
 
-/// The body of a function, opened: its statements stand in the same braces.
+/// The body of a function, opened: its statements are in the same braces.
 #[test]
 fn block(rt: HostRuntime) {
     let deferred = body(&rt, rt.alloc(), FUNCTION);
@@ -179,7 +179,7 @@ fn kept(rt: &impl Abort, alloc: Global, text: &str) -> Item {
     Item::Verbatim(tokens_of(rt, alloc, text))
 }
 
-/// Fails where the answer isn't refused, or at another byte.
+/// Fails where the result isn't refused, or at another byte.
 fn assert_refused_at<T: Drop>(rt: &impl Abort, answer: Result<T>, byte: usize) {
     let missed = value(rt, fault(answer));
     assert_eq!(rt; missed.span.start, byte);
@@ -201,7 +201,7 @@ fn made_by_hand(rt: HostRuntime) {
     assert_eq!(rt; items.len(), 2);
 }
 
-/// A statement that wants a semicolon and has none stands last.
+/// A statement that needs a semicolon and has none is last.
 #[test]
 fn statements_by_hand(rt: HostRuntime) {
     let alloc = rt.alloc();
@@ -218,7 +218,7 @@ fn statements_by_hand(rt: HostRuntime) {
     assert_refused_at(&rt, DeferredBlock::new(&block, alloc), 3);
 }
 
-/// Braces in each other, around nothing.
+/// Braces nested, around nothing.
 fn nested_braces(rt: &impl Abort, alloc: Global, depth: usize) -> String {
     let mut text = String::new(alloc);
     value(rt, text.push_str("fn f() {"));

@@ -141,7 +141,7 @@ fn add<T: ToTokens + Drop>(rt: &impl Abort, tokens: &mut TokenStream, tree: T) {
     value(rt, tree.to_tokens(tokens));
 }
 
-/// A print goes behind what stands in the stream.
+/// A print goes after what is in the stream.
 #[test]
 fn appended(rt: HostRuntime) {
     let alloc = rt.alloc();

@@ -65,7 +65,7 @@ fn signed(rt: &impl Abort, alloc: Global) -> Expr {
     })
 }
 
-/// `if`, with a name behind `else`, which no text gives.
+/// `if`, with a name after `else`, which no text gives.
 fn branched(rt: &impl Abort, alloc: Global) -> Expr {
     Expr::If(ExprIf {
         attrs: Vec::new(alloc),
@@ -79,7 +79,7 @@ fn branched(rt: &impl Abort, alloc: Global) -> Expr {
     })
 }
 
-/// A copy prints as what was copied. What stands behind `else` and is no block is printed in braces.
+/// A copy prints as what was copied. What follows `else` and is no block is printed in braces.
 #[test]
 fn copied(rt: HostRuntime) {
     let alloc = rt.alloc();

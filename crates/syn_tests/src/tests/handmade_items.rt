@@ -18,7 +18,7 @@ fn ended(rt: &impl Abort, alloc: Global, text: &str, semi_token: Option<Semi>) -
     item
 }
 
-/// Behind braces no `;` is printed, though one that is there is told from none; behind parentheses one always is.
+/// After braces no `;` is printed, though one that is there is distinguished from none; after parentheses one always is.
 #[test]
 fn semicolons(rt: HostRuntime) {
     let alloc = rt.alloc();
@@ -33,7 +33,7 @@ fn semicolons(rt: HostRuntime) {
     assert_print_shown(&rt, alloc, parentheses, want);
 }
 
-/// What this text has behind its name, as a field by hand, with a name or none, and a colon or none.
+/// What this text has after its name, as a field by hand, with a name or none, and a colon or none.
 fn field(rt: &impl Abort, alloc: Global, text: &str, named: bool, colon: bool) -> Field {
     let tokens = tokens_of(rt, alloc, text);
     let mut field = value(rt, Field::parse_named(&mut ParseBuffer::new(&tokens)));
@@ -50,7 +50,7 @@ fn field(rt: &impl Abort, alloc: Global, text: &str, named: bool, colon: bool) -
     field
 }
 
-/// A colon is printed behind a name though there is none, and without a name no colon is; a default is printed in any case.
+/// A colon is printed after a name though there is none, and without a name no colon is; a default is printed in any case.
 #[test]
 fn field_names(rt: HostRuntime) {
     for (text, named, colon, want) in [
@@ -72,7 +72,7 @@ fn field_names(rt: HostRuntime) {
     }
 }
 
-/// A colon that isn't printed is told from none.
+/// A colon that isn't printed is distinguished from none.
 #[test]
 fn colons(rt: HostRuntime) {
     let with = field(&rt, rt.alloc(), "a: b = 1", false, true);

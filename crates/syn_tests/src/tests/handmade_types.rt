@@ -18,7 +18,7 @@ fn placed(rt: &impl Abort, alloc: Global, position: usize, as_token: Option<As>)
     ty
 }
 
-/// So many words stand in the `< >`; a position behind the last word counts as that, and without a word inside no `as` is printed.
+/// So many words are in the `< >`; a position after the last word counts as that, and without a word inside no `as` is printed.
 #[test]
 fn positions(rt: HostRuntime) {
     for (position, want) in [
@@ -43,7 +43,7 @@ fn without_as(rt: HostRuntime) {
     }
 }
 
-/// A tuple of one type, without a comma behind it.
+/// A tuple of one type, without a comma after it.
 fn lone(rt: &impl Abort, alloc: Global) -> TypeTuple {
     let mut elems = Punctuated::new(alloc);
     value(rt, elems.push_value(tree_of(rt, alloc, "T")));
@@ -53,7 +53,7 @@ fn lone(rt: &impl Abort, alloc: Global) -> TypeTuple {
     }
 }
 
-/// Behind one type alone a comma is printed: without it the print would be a type in parentheses.
+/// After one type alone a comma is printed: without it the print would be a type in parentheses.
 #[test]
 fn lone_comma(rt: HostRuntime) {
     let alloc = rt.alloc();

@@ -109,7 +109,7 @@ fn a_type_in_a_group(rt: HostRuntime) {
 }
 
 #[test]
-fn an_empty_group_behind_the_last_comma(rt: HostRuntime) {
+fn an_empty_group_after_the_last_comma(rt: HostRuntime) {
     let words = "struct S ( u8 , < > ) ;";
     let input: DeriveInput = tree(&rt, rt.alloc(), words);
     assert!(rt; is_plain(&input, false));
@@ -271,7 +271,7 @@ fn an_attribute_that_begins_in_a_group(rt: HostRuntime) {
     assert!(rt; input.attrs.len() == 1);
 }
 
-/// What is kept as tokens keeps its groups.
+/// What is kept verbatim keeps its groups.
 #[test]
 fn tokens_of_a_macro(rt: HostRuntime) {
     let statement: Stmt = tree(&rt, rt.alloc(), "< m > ! { < pub > a }");
@@ -286,10 +286,10 @@ fn entries_of_body(statement: &Stmt) -> usize {
     }
 }
 
-/// How many groups stand in each other, and how many stand side by side.
+/// How many groups are nested, and how many stand side by side.
 const MANY: usize = 100_000;
 
-/// A struct with so many invisible groups, none with content, in each other before its name, and behind that side by side.
+/// A struct with so many invisible groups, none with content, nested before its name, and after that side by side.
 fn many_groups(alloc: Global) -> Result<TokenStream> {
     let span = syn::Span::call_site();
     let mut out = StreamBuilder::new(alloc);

@@ -8,7 +8,7 @@ use syn::{Expr, ExprLit, LitKind, Literal};
 use syn_test_support::outline::outline;
 use syn_test_support::span;
 
-/// The kind of the token tells what it is as a literal, and not its text.
+/// The kind of the token decides what it is as a literal, and not its text.
 #[test]
 fn from_tokens(rt: HostRuntime) {
     for (kind, want) in [

@@ -38,7 +38,7 @@ fn described(alloc: Global, members: Members<'_>) -> Result<String, AllocError> 
     Ok(text)
 }
 
-/// Fails where the fields behind so many of them are called otherwise.
+/// Fails where the fields after so many of them are called otherwise.
 fn assert_members(rt: &impl Abort, alloc: Global, fields: &Fields, taken: usize, want: &str) {
     assert!(rt; fields.len() <= 1000);
     let mut members = fields.members();

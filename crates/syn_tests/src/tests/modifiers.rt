@@ -15,7 +15,7 @@ fn add_fault(text: &mut String, fault: &Fault) -> std::result::Result<(), AllocE
     write!(text, "{}: {};", fault.span.start, fault.text)
 }
 
-/// The faults of the answer; `ok` where there are none.
+/// The faults of the result; `ok` where there are none.
 fn faults(alloc: Global, answer: &Result<()>) -> std::result::Result<String, AllocError> {
     let mut text = String::new(alloc);
     match answer {
@@ -29,7 +29,7 @@ fn faults(alloc: Global, answer: &Result<()>) -> std::result::Result<String, All
     Ok(text)
 }
 
-/// Fails where the answer has other faults.
+/// Fails where the result has other faults.
 fn assert_faults(rt: &impl Abort, alloc: Global, answer: Result<()>, want: &str) {
     assert_text(rt, faults(alloc, &answer), want);
 }
@@ -77,7 +77,7 @@ fn of_impl(defaultness: bool, polarity: bool, constness: bool) -> ImplModifiers 
     }
 }
 
-/// Each is reported: `default` before `!`, and `const` behind both.
+/// Each is reported: `default` before `!`, and `const` after both.
 #[test]
 fn of_impls(rt: HostRuntime) {
     for (defaultness, polarity, constness, want) in [

@@ -122,7 +122,7 @@ fn item_of(stmt: &Stmt) -> Result<Item> {
     }
 }
 
-/// An item among statements is an item of its kind, or kept as tokens.
+/// An item among statements is an item of its kind, or kept verbatim.
 #[test]
 fn items_of_statements(rt: HostRuntime) {
     let alloc = rt.alloc();
@@ -143,7 +143,7 @@ fn items_of_statements(rt: HostRuntime) {
     }
 }
 
-/// What stands in a function of one's own: outer attributes, a name, inner attributes, and statements.
+/// What is in a function of one's own: outer attributes, a name, inner attributes, and statements.
 #[derive(Drop)]
 struct Own {
     outer: Vec<Attribute>,

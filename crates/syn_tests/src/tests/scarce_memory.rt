@@ -1,7 +1,7 @@
-//! Where memory is refused, that is the answer, nothing else changes, and the next call answers rightly.
+//! Where memory is refused, that is the result, nothing else changes, and the next call returns rightly.
 //!
 //! These tests pass with ample memory, and with `rt try --test --fail-alloc N` for every N, which refuses one request.
-//! Each does the same twice: one of both has to be right, the other may be refused for want of memory.
+//! Each does the same twice: one of both has to be right, the other may be refused for lack of memory.
 ghost use Rattle.std.specs.Prelude.{None};
 
 use std::alloc::Global;
@@ -28,7 +28,7 @@ const SOURCE: &str = "/// a \"b\"\n#[c] r#d 'e b\"f\" 1.5e-3 { [ ( ) ] } /* g */
 const TEXT: &str =
     "# [ doc = \" a \\\"b\\\"\" ] # [ c ] r#d 'e b\"f\" 1.5e-3 { [ ( ) ] } # ! [ doc = \" h\" ]";
 
-/// Whether one answer is right, and the other one is right too or a want of memory.
+/// Whether one result is right, and the other one is right too or a lack of memory.
 fn are_right(first: Result<bool>, second: Result<bool>) -> bool {
     match (first, second) {
         (Ok(first), Ok(second)) => first && second,
@@ -189,7 +189,7 @@ fn deferred_trees(rt: HostRuntime) {
     assert_right(&rt, is_opened(alloc), is_opened(alloc));
 }
 
-/// Whether a parse that is refused for want of memory leaves its buffer, and the next one is right.
+/// Whether a parse that is refused for lack of memory leaves its buffer, and the next one is right.
 fn parse_leaves(alloc: Global) -> Result<bool> {
     let tokens = read_tokens(alloc, STRUCT)?;
     let mut input = ParseBuffer::new(&tokens);
@@ -303,7 +303,7 @@ fn is_literal_made(alloc: Global) -> Result<bool> {
     Ok(literal.text() == "'a'" && is_equal_copied(alloc, literal)?)
 }
 
-/// Whether the answer is a fault and no want of memory.
+/// Whether the result is a fault and no lack of memory.
 fn is_fault<T>(answer: &Result<T>) -> bool {
     matches!(answer, Err(error) if !error.is_memory())
 }

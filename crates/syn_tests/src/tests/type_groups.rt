@@ -10,14 +10,14 @@ use syn::token::{Delimiter, Spacing, TokenStream};
 use syn_test_support::outline::outline;
 use syn_test_support::{fault, push_marks};
 
-/// A type behind a mark, in a group without delimiters, and a mark behind the group.
+/// A type after a mark, in a group without delimiters, and a mark after the group.
 fn in_a_group(rt: &impl Abort, alloc: Global, text: &str) -> TokenStream {
     let mut tokens = grouped(rt, alloc, "&", Delimiter::None, text);
     value(rt, push_marks(&mut tokens, ";", Spacing::Alone));
     tokens
 }
 
-/// What shows the type in a group behind a reference; nothing where this is none.
+/// What shows the type in a group after a reference; nothing where this is none.
 fn content_shown(alloc: Global, ty: &Type) -> Result<String> {
     if let Type::Reference(reference) = ty
         && let Type::Group(group) = &*reference.elem

@@ -72,19 +72,19 @@ fn invisible_groups(rt: HostRuntime) {
     }
 }
 
-/// A variant whose name stands behind an invisible group.
-fn variant_behind(rt: &impl Abort, alloc: Global, text: &str) -> Result<Variant> {
+/// A variant whose name follows an invisible group.
+fn variant_after(rt: &impl Abort, alloc: Global, text: &str) -> Result<Variant> {
     let mut tokens = grouped(rt, alloc, "", Delimiter::None, text);
     value(rt, push_ident(&mut tokens, "A"));
     parse2(tokens)
 }
 
 #[test]
-fn variants_behind_groups(rt: HostRuntime) {
-    let variant = value(&rt, variant_behind(&rt, rt.alloc(), ""));
+fn variants_after_groups(rt: HostRuntime) {
+    let variant = value(&rt, variant_after(&rt, rt.alloc(), ""));
     assert_printed(&rt, rt.alloc(), variant, "A");
-    let variant = value(&rt, variant_behind(&rt, rt.alloc(), "pub"));
+    let variant = value(&rt, variant_after(&rt, rt.alloc(), "pub"));
     assert_printed(&rt, rt.alloc(), variant, "A");
-    let missed = value(&rt, fault(variant_behind(&rt, rt.alloc(), "1")));
+    let missed = value(&rt, fault(variant_after(&rt, rt.alloc(), "1")));
     assert!(rt; missed.text == "expected identifier");
 }

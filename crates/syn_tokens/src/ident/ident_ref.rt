@@ -1,4 +1,4 @@
-//! Identifiers that a stream lends.
+//! Identifiers borrowed from a stream.
 ghost use Rattle.std.specs.Prelude.{◌≡◌, IfOk};
 ghost use Rattle.syn_grammar.specs.Tokens.{same_text};
 ghost use Rattle.syn_tokens.specs.Idents.{is_keyword};
@@ -9,7 +9,7 @@ use crate::text::Text;
 use std::alloc::AllocError;
 use std::marker::Model;
 
-/// An identifier in a stream, or one that another owns.
+/// A borrowed identifier: of a stream, or of an owned identifier.
 #[derive(Drop)]
 pub struct IdentRef<'a> {
     text: &'a Text,
@@ -29,7 +29,7 @@ impl<'a> Model for IdentRef<'a> {
 }
 
 impl<'a> IdentRef<'a> {
-    /// The identifier of this text, which is known to be a keyword or none.
+    /// The identifier of this text; the caller knows whether it is a keyword.
     #[inline(always)]
     pub(crate) fn new(text: &'a Text, keyword: bool, span: Span) -> IdentRef<'a>
         requires { keyword ≡ is_keyword text.now }
@@ -42,29 +42,28 @@ impl<'a> IdentRef<'a> {
         }
     }
 
-    /// The identifier once more, as a value of its own, with the same span. It takes no memory, and is refused only where
-    /// 2^64 - 1 copies of the text are there.
+    /// An owned copy with the same span. It allocates nothing, and fails only if there are 2^64 - 1 copies of the text.
     pub fn to_ident(&self) -> Result<Ident, AllocError>
         ensures { IfOk result (λ i. i ≡ self.now) }
     {
         Ok(Ident::of_text(self.text.share()?, self.keyword, self.span))
     }
 
-    /// Its text, with `r#` where that stands before it.
+    /// The text, with `r#` if the identifier is raw.
     pub fn text(&self) -> &'a str
         ensures { result.now ≡ self.now.text }
     {
         self.text.as_str()
     }
 
-    /// Whether it is one of the words that are no names, such as `struct`; `r#struct` is a name.
+    /// Whether it is a keyword, such as `struct`; `r#struct` is a name.
     pub fn is_keyword(&self) -> bool
         ensures { result ≡ is_keyword self.now.text }
     {
         self.keyword
     }
 
-    /// Whether it is the identifier of this text.
+    /// Whether its text is this one.
     #[tactic(auto, using(syn_grammar::proofs::Same::bytes_same_text))]
     pub fn is(&self, text: &str) -> bool
         ensures { result ≡ same_text self.now.text text.now }

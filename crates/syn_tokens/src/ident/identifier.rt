@@ -1,4 +1,4 @@
-//! How identifiers are spelled.
+//! The spelling of identifiers.
 ghost use Rattle.std.specs.Prelude.{◌≡◌};
 ghost use Rattle.std.specs.List.{list_all};
 ghost use Rattle.std.specs.Str.{chars};
@@ -7,8 +7,8 @@ ghost use Rattle.syn_tokens.specs.Idents.{may_start, is_name, is_identifier};
 
 use unicode_ident::{is_xid_continue, is_xid_start};
 
-/// Whether the text is an identifier: `_` or a character that Unicode lets identifiers start with, and then such as they go
-/// on by; `r#` may stand before it.
+/// Whether the text is an identifier: `_` or a character that may start an identifier in Unicode, followed by characters that
+/// may continue one; optionally with `r#` before it.
 #[tactic(auto, unfolding(crate::specs::Idents::is_identifier, crate::specs::Idents::without_raw))]
 pub fn is_identifier(text: &str) -> bool
     ensures { result ≡ is_identifier text.now }
@@ -36,7 +36,7 @@ fn may_start(character: char) -> bool
     character == '_' || is_xid_start(character)
 }
 
-/// Whether an identifier may go on by these characters.
+/// Whether all these characters may continue an identifier.
 fn all_continue(text: &str) -> bool
     ensures { result ≡ list_all is_xid_continue (chars text.now) }
 {

@@ -1,11 +1,11 @@
-//! The words that are no names.
+//! Keywords: identifiers that are not names.
 ghost use Rattle.std.specs.Prelude.{◌≡◌, ◌<◌, length, map};
 ghost use Rattle.std.specs.List.{list_any};
 ghost use Rattle.std.specs.Str.{bytes_eq};
 ghost use Rattle.syn_tokens.specs.Idents.{is_keyword};
 ghost use Rattle.syn_tokens.specs.Keywords.{texts, at_place, keywords_from};
 
-/// Those that begin with `a`, with `b`, and so on to `z`.
+/// One row for each first letter, `a` to `z`.
 const BY_LETTER: [&[&str]; 26] = [
     &["abstract", "as", "async", "await"],
     &["become", "box", "break"],
@@ -35,10 +35,10 @@ const BY_LETTER: [&[&str]; 26] = [
     &[],
 ];
 
-/// The others.
+/// Keywords with another first character.
 const OTHERS: [&str; 2] = ["_", "Self"];
 
-/// Whether the text is one of the words that are no names, such as `struct`.
+/// Whether the text is a keyword, such as `struct`.
 pub fn is_keyword(text: &str) -> bool
     ensures { result ≡ is_keyword text.now }
 {
@@ -48,7 +48,7 @@ pub fn is_keyword(text: &str) -> bool
     }
 }
 
-/// The keywords that may begin with the byte.
+/// The keywords that may start with the byte.
 #[tactic(auto, unfolding(crate::specs::Keywords::keywords_from))]
 fn keywords_from(first: u8) -> &'static [&'static str]
     ensures { texts result.now ≡ keywords_from first }

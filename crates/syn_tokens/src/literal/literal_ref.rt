@@ -1,4 +1,4 @@
-//! Literals that a stream lends.
+//! Literals borrowed from a stream.
 ghost use Rattle.std.specs.Prelude.{◌≡◌, IfOk};
 ghost use Rattle.syn_grammar.specs.Tokens.{same_text};
 ghost use Rattle.syn_tokens.specs.Literals.{spelling};
@@ -9,7 +9,7 @@ use crate::text::Text;
 use std::alloc::AllocError;
 use std::marker::Model;
 
-/// A literal in a stream, or one that another owns.
+/// A borrowed literal: of a stream, or of an owned literal.
 #[derive(Drop)]
 pub struct LiteralRef<'a> {
     kind: LitKind,
@@ -26,7 +26,7 @@ impl<'a> Model for LiteralRef<'a> {
 }
 
 impl<'a> LiteralRef<'a> {
-    /// The literal of that kind with that text.
+    /// The literal of this kind with this text.
     #[inline(always)]
     pub(crate) fn new(kind: LitKind, text: &'a Text, span: Span) -> LiteralRef<'a>
         ensures { result ≡ record { kind = kind; text = text.now; span = span } }
@@ -34,29 +34,28 @@ impl<'a> LiteralRef<'a> {
         LiteralRef { kind, text, span }
     }
 
-    /// The literal once more, as a value of its own, with the same span. It takes no memory, and is refused only where
-    /// 2^64 - 1 copies of the text are there.
+    /// An owned copy with the same span. It allocates nothing, and fails only if there are 2^64 - 1 copies of the text.
     pub fn to_literal(&self) -> Result<Literal, AllocError>
         ensures { IfOk result (λ l. l ≡ self.now) }
     {
         Ok(Literal::of_text(self.kind, self.text.share()?, self.span))
     }
 
-    /// What it is.
+    /// The kind.
     pub fn kind(&self) -> LitKind
         ensures { result ≡ self.now.kind }
     {
         self.kind
     }
 
-    /// Its text, with quotes and suffix.
+    /// The text, with quotes and suffix.
     pub fn text(&self) -> &'a str
         ensures { result.now ≡ self.now.text }
     {
         self.text.as_str()
     }
 
-    /// Whether both have the same kind and text, wherever they stand.
+    /// Whether both have the same kind and text; spans are ignored.
     #[tactic(auto, using(syn_grammar::proofs::Same::bytes_same_text))]
     pub(crate) fn is_same(&self, other: &LiteralRef<'_>) -> bool
         ensures { result ≡ same_text (spelling self.now) (spelling other.now) }

@@ -30,7 +30,7 @@ impl Print for Lifetime {
     }
 }
 
-/// Its trees, as they are.
+/// The token trees of a stream, unchanged.
 impl Print for TokenStream {
     fn print_in(&self, out: &mut StreamBuilder) -> Result<(), AllocError> {
         out.append(self)

@@ -10,7 +10,7 @@ use crate::punctuated::Punctuated;
 use crate::stream::builder::StreamBuilder;
 use std::alloc::AllocError;
 
-/// Adds the values of a list and its separators at the end, whichever rule of the grammar the list is of.
+/// Appends the values of a list and its separators, whichever rule of the grammar the list belongs to.
 #[tactic(auto, using(crate::proofs::Rows::list_row, crate::proofs::Rows::joined_row))]
 pub fn print_list<T: Print, P: Print>(
     list: &Punctuated<T, P>,
@@ -23,7 +23,7 @@ pub fn print_list<T: Print, P: Print>(
     print_row(list, out)
 }
 
-/// The same, where the clause says only in which order.
+/// The same, with a clause about the order only.
 #[tactic(auto, using(crate::proofs::Prints::prints, crate::proofs::Rows::row_step, crate::proofs::Rows::row_done))]
 fn print_row<T: Print, P: Print>(
     list: &Punctuated<T, P>,

@@ -110,7 +110,7 @@ impl<'a, T, P> IntoIterator for &'a Punctuated<T, P> {
     }
 }
 
-/// The values of a list to be changed, in order and from both ends.
+/// Mutable references to the values of a list, in order and from both ends.
 #[derive(Drop)]
 pub struct IterMut<'a, T, P> {
     pairs: &'a mut [(T, P)],
@@ -143,7 +143,7 @@ impl<'a, T, P> Default for IterMut<'a, T, P> {
 }
 
 impl<T, P> Punctuated<T, P> {
-    /// The values to be changed, in order and from both ends.
+    /// Mutable references to the values, in order and from both ends.
     pub fn iter_mut(&mut self) -> IterMut<'_, T, P>
         ensures values { result ≡ values self.old }
         ensures bound { length result < 2 ^ 64 }
@@ -201,10 +201,10 @@ impl<'a, T, P> IntoIterator for &'a mut Punctuated<T, P> {
     }
 }
 
-/// The values of a list that is used up, in order and from both ends.
+/// The values of a consumed list, in order and from both ends.
 #[derive(Drop)]
 pub struct IntoIter<T, P> {
-    /// None of the iterator that never had any.
+    /// None in an iterator over no values.
     pairs: Option<vec::IntoIter<(T, P)>>,
     last: Option<T>,
 }
@@ -222,7 +222,7 @@ impl<T, P> Model for IntoIter<T, P> {
     ghost view = { λ i. firsts (items_in into_iter_items i.pairs) ++ listed i.last };
 }
 
-/// No values. It takes no memory.
+/// No values. It allocates nothing.
 impl<T, P> Default for IntoIter<T, P> {
     ghost is_default = { λ i. i ≡ [] };
 
@@ -253,7 +253,7 @@ impl<T: Drop, P: Drop> IntoIterator for Punctuated<T, P> {
     }
 }
 
-/// The first pair that is left.
+/// The first remaining pair.
 fn next_pair<X: Drop>(pairs: &mut Option<vec::IntoIter<X>>) -> Option<X>
     ensures { YieldsFirst (items_in into_iter_items) pairs.old result pairs.new }
 {
@@ -263,7 +263,7 @@ fn next_pair<X: Drop>(pairs: &mut Option<vec::IntoIter<X>>) -> Option<X>
     }
 }
 
-/// The last pair that is left.
+/// The last remaining pair.
 fn last_pair<X: Drop>(pairs: &mut Option<vec::IntoIter<X>>) -> Option<X>
     ensures { YieldsLast (items_in into_iter_items) pairs.old result pairs.new }
 {

@@ -1,4 +1,4 @@
-//! Token streams that are built one token or delimiter after another.
+//! Building token streams, one token or delimiter after another.
 ghost use Rattle.std.specs.Prelude.{◌≡◌, ◌<◌, IsTrue, List, [], ◌∷◌, ◌++◌, true, length, slice_set, IfErr, OnOk, OnErr, MatchResult, IfOk};
 ghost use Rattle.syn_grammar.specs.Tokens.{end, ident, leaf, punct, ◌⧺◌};
 ghost use Rattle.syn_tokens.specs.Entries.{decode, IsToken};
@@ -21,33 +21,33 @@ use crate::stream::words::Words;
 use std::alloc::{AllocError, Global};
 use std::marker::Model;
 
-/// A group whose closing delimiter is still to come.
+/// A group that is not closed yet.
 #[derive(Clone, Copy)]
 struct Pending {
     delimiter: Delimiter,
     opening: Span,
-    /// How many entries stand before it.
+    /// The number of entries before it.
     at: usize,
-    /// How many trees stand before it in the group around it, or in the whole stream.
+    /// The number of trees before it in the enclosing group, or in the stream.
     trees: usize,
 }
 
-/// How much of a builder was there from the beginning.
+/// The part of a builder that was there from the beginning.
 #[derive(Clone, Copy)]
 struct Mark {
     entries: usize,
     trees: usize,
 }
 
-/// Builds a token stream from tokens and the delimiters of groups, one after another. Groups may be open, one in another;
-/// however deep they are, each call takes as little time. It may begin with a stream, which `undo` gives back.
+/// Builds a token stream from tokens and the delimiters of groups, one after another. Open groups may be nested; the time of a
+/// call doesn't depend on the depth. It may begin with a stream, which `undo` restores.
 #[derive(Drop)]
 pub struct StreamBuilder {
     entries: Vec<Entry>,
     mark: Mark,
     /// From the outermost to the innermost.
     pending: Vec<Pending>,
-    /// How many trees stand so far in the innermost open group, or in the whole stream.
+    /// The number of trees so far in the innermost open group, or in the stream.
     trees: usize,
     words: Words,
     alloc: Global,
@@ -67,7 +67,7 @@ impl Model for StreamBuilder {
     ghost invariant = { λ b. IsBuilt b.entries.items b.pending.items b.trees × IsBegun b.mark.entries b.mark.trees b.entries.items };
 }
 
-/// Sets the opening delimiter of a group, and adds its closing delimiter; refused, it leaves the entries as they were.
+/// Completes the opening delimiter of a group, and adds its closing delimiter; if memory is refused, the entries are unchanged.
 fn enclose(
     entries: &mut Vec<Entry>,
     place: usize,
@@ -90,14 +90,14 @@ fn not_balanced(span: Span) -> Error
 }
 
 impl StreamBuilder {
-    /// Begins with no tree and no open group. What grows takes its memory from `alloc`.
+    /// Begins with no tree and no open group. It grows in memory from `alloc`.
     pub fn new(alloc: Global) -> StreamBuilder
         ensures { result ≡ record { before = end; open_groups = []; stream = end } }
     {
         StreamBuilder::behind(TokenStream::new(alloc))
     }
 
-    /// Begins with this stream, and adds behind it. It takes the stream as it is, without memory and in no time.
+    /// Begins with this stream, and appends to it. It takes over the stream without copying, in constant time.
     pub(crate) fn behind(stream: TokenStream) -> StreamBuilder
         ensures { result ≡ record { before = stream; open_groups = []; stream = stream } }
     {
@@ -116,12 +116,12 @@ impl StreamBuilder {
         }
     }
 
-    /// Where its memory comes from.
+    /// The allocator.
     pub fn alloc(&self) -> Global {
         self.alloc
     }
 
-    /// Adds a token; refused, it leaves all as it was.
+    /// Appends a token; if memory is refused, all is unchanged.
     #[inline(always)]
     pub fn push(&mut self, token: Entry) -> std::result::Result<(), AllocError>
         requires { IsToken token }
@@ -133,7 +133,8 @@ impl StreamBuilder {
         Ok(())
     }
 
-    /// Adds copies of the trees of a stream, in memory that is asked for once, however deep they are; refused, it leaves all as it was.
+    /// Appends copies of the trees of a stream, with one allocation however deep they are; if memory is refused, all is
+    /// unchanged.
     pub fn append(&mut self, stream: &TokenStream) -> std::result::Result<(), AllocError>
         ensures prints { OnOk result (self.new ≡ added self.old stream.now) }
         ensures err { OnErr result (self.new ≡ self.old) }
@@ -144,7 +145,7 @@ impl StreamBuilder {
         Ok(())
     }
 
-    /// Adds an identifier.
+    /// Appends an identifier.
     #[tactic(auto, unfolding(crate::specs::Building::added))]
     #[inline(always)]
     pub fn add_ident(&mut self, ident: Ident) -> std::result::Result<(), AllocError>
@@ -155,8 +156,8 @@ impl StreamBuilder {
         self.push(entry)
     }
 
-    /// Adds the identifier of a text that is known to be one. It shares its text with the same word that was added so before,
-    /// of the first words that were.
+    /// Appends the identifier of a text that is known to be one. It shares the text of an earlier identifier that was added by
+    /// this call, if that is one of the first few.
     #[tactic(auto, unfolding(crate::specs::Building::added))]
     pub fn add_word(&mut self, text: &str, span: Span) -> std::result::Result<(), AllocError>
         requires { IsTrue (is_identifier text.now) }
@@ -167,7 +168,7 @@ impl StreamBuilder {
         self.add_ident(ident)
     }
 
-    /// Adds a literal.
+    /// Appends a literal.
     #[tactic(auto, unfolding(crate::specs::Building::added))]
     #[inline(always)]
     pub fn add_literal(&mut self, literal: Literal) -> std::result::Result<(), AllocError>
@@ -178,7 +179,7 @@ impl StreamBuilder {
         self.push(entry)
     }
 
-    /// Adds one character of a mark.
+    /// Appends one character of a mark.
     #[tactic(auto, unfolding(crate::specs::Building::added))]
     pub fn add_punct(
         &mut self,
@@ -195,7 +196,7 @@ impl StreamBuilder {
         self.push(entry)
     }
 
-    /// Goes into a group; refused, it leaves all as it was.
+    /// Opens a group; if memory is refused, all is unchanged.
     pub fn open(
         &mut self,
         delimiter: Delimiter,
@@ -223,9 +224,8 @@ impl StreamBuilder {
         Ok(())
     }
 
-    /// Goes out of the innermost open group, which becomes a tree of the group around it. Refused with the fault
-    /// `unbalanced group` at the delimiter where the innermost open group has another delimiter, or none is open; refused, it
-    /// leaves all as it was.
+    /// Closes the innermost open group, which becomes a tree of the enclosing group. Fails with `unbalanced group` at the
+    /// delimiter if the innermost open group has another delimiter, or none is open; on failure all is unchanged.
     pub fn close(&mut self, delimiter: Delimiter, closing: Span) -> Result<()>
         ensures ok { OnOk result (Closes delimiter closing self.old self.new) }
         ensures err { IfErr result (IsUnbalanced closing (NotOpen delimiter self.old)) }
@@ -241,7 +241,7 @@ impl StreamBuilder {
         Ok(self.close_group(closing)?)
     }
 
-    /// Goes out of the innermost open group, whichever delimiter it has; refused, it leaves all as it was.
+    /// Closes the innermost open group, whichever delimiter it has; on failure all is unchanged.
     pub fn close_group(&mut self, closing: Span) -> std::result::Result<(), AllocError>
         requires { is_open self.old ≡ true }
         ensures ok { OnOk result (self.new ≡ out_of_group (at closing) self.old) }
@@ -270,8 +270,8 @@ impl StreamBuilder {
         Ok(())
     }
 
-    /// The stream, where no group is open any more. Else refused with the fault `unbalanced group` at the outermost open
-    /// delimiter. It takes no memory.
+    /// The stream, if no group is open. Otherwise fails with `unbalanced group` at the outermost open delimiter. It allocates
+    /// nothing.
     pub fn finish(self) -> Result<TokenStream>
         ensures { MatchResult result (λ stream. (self.open_groups ≡ []) × (self.stream ≡ stream))
             (λ e. (g : OpenGroup) × (gs : List OpenGroup) × (self.open_groups ≡ g ∷ gs) × (e ≡ unbalanced g.opening)) }
@@ -282,7 +282,7 @@ impl StreamBuilder {
         }
     }
 
-    /// The stream. It takes no memory.
+    /// The stream. It allocates nothing.
     pub(crate) fn into_stream(self) -> TokenStream
         requires { self.open_groups ≡ [] }
         ensures { result ≡ self.stream }
@@ -296,7 +296,7 @@ impl StreamBuilder {
         TokenStream::of_entries(entries, trees, alloc)
     }
 
-    /// What it began with, without what was added, whether or not groups are open. It takes no memory.
+    /// What the builder began with, without what was added, even if groups are open. It allocates nothing.
     pub(crate) fn undo(self) -> TokenStream
         ensures { result ≡ self.before }
     {

@@ -1,22 +1,22 @@
-//! Spans of tokens, in less than half their room.
+//! Compact spans: less than half the size of a span.
 ghost use Rattle.std.specs.Prelude.{◌≡◌, IfSome, IsSome};
 ghost use Rattle.syn_tokens.specs.CompactSpans.{wide, IsCompact};
 
 use crate::span::Span;
 
-/// A span of fewer than 2^16 bytes that starts within the first 2^32 bytes of a text. It takes 6 bytes, at any even address,
-/// so an entry has room for it beside the two bytes that tell what it is.
+/// A span of fewer than 2^16 bytes that starts within the first 2^32 bytes of a text. It takes 6 bytes, at any even address, so
+/// it fits into an entry beside the two bytes of the entry's kind.
 #[derive(Clone, Copy, Debug)]
 pub(crate) struct CompactSpan {
-    /// The lower half of where it starts.
+    /// The lower half of the start.
     low: u16,
-    /// The upper half.
+    /// The upper half of the start.
     high: u16,
     length: u16,
 }
 
 impl CompactSpan {
-    /// The span, where it is such a one.
+    /// The compact form of a span, if it has one.
     #[inline(always)]
     pub(crate) fn of(span: Span) -> Option<CompactSpan>
         ensures value { IfSome result (λ compact_span. wide compact_span ≡ span) }
@@ -30,7 +30,7 @@ impl CompactSpan {
         })
     }
 
-    /// The span itself.
+    /// The span.
     #[inline(always)]
     pub(crate) fn span(&self) -> Span
         ensures { result ≡ wide self.now }

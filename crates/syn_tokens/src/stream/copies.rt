@@ -1,4 +1,4 @@
-//! Copies of token trees and streams: each takes memory once, however deep its groups are.
+//! Copies of token trees and streams: each makes one allocation, however deep the groups are.
 ghost use Rattle.std.specs.Prelude.{◌≡◌, ◌++◌, ℕ, [], length, take, IfOk, IfErr, OnOk, OnErr};
 ghost use Rattle.syn_grammar.specs.Tokens.{end};
 ghost use Rattle.syn_grammar.specs.Take as grammar;
@@ -15,7 +15,7 @@ use crate::stream::entry::Entry;
 use crate::stream::tree::{Group, TokenTree};
 use std::alloc::{AllocError, Global};
 
-/// Adds copies of these entries behind others; refused, some of them may stand there.
+/// Appends copies of these entries to others; if memory is refused, some of them may have been added.
 fn push_copies(behind: &mut Vec<Entry>, entries: &[Entry]) -> std::result::Result<(), AllocError>
     ensures ok { OnOk result (behind.new.items ≡ behind.old.items ++ entries.now) }
     ensures kept { take (length behind.old.items) behind.new.items ≡ behind.old.items }
@@ -26,7 +26,7 @@ fn push_copies(behind: &mut Vec<Entry>, entries: &[Entry]) -> std::result::Resul
     Ok(())
 }
 
-/// Adds copies of these entries behind others; refused, it leaves those as they were.
+/// Appends copies of these entries to others; if memory is refused, those are unchanged.
 pub(super) fn append_copies(
     behind: &mut Vec<Entry>,
     entries: &[Entry],
@@ -45,7 +45,7 @@ pub(super) fn append_copies(
     }
 }
 
-/// Copies of these entries.
+/// A copy of these entries.
 fn copy_entries(entries: &[Entry], alloc: Global) -> std::result::Result<Vec<Entry>, AllocError>
     ensures { IfOk result (λ copy. copy.items ≡ entries.now) }
 {
@@ -55,7 +55,7 @@ fn copy_entries(entries: &[Entry], alloc: Global) -> std::result::Result<Vec<Ent
 }
 
 impl<'a> Cursor<'a> {
-    /// A stream of copies of all the trees, in memory from `alloc`; refused only where memory is.
+    /// A stream of copies of all the trees, in memory from `alloc`; fails only if memory is refused.
     pub fn to_stream(&self, alloc: Global) -> std::result::Result<TokenStream, AllocError>
         ensures { IfOk result (λ copy. copy ≡ self.now) }
     {
@@ -63,7 +63,7 @@ impl<'a> Cursor<'a> {
         Ok(TokenStream::of_entries(entries, self.len(), alloc))
     }
 
-    /// A stream of copies of the first trees, of so many, or of all where there are fewer; refused only where memory is.
+    /// A stream of copies of the first so many trees, or of all if there are fewer; fails only if memory is refused.
     pub fn first_to_stream(
         &self,
         count: usize,
@@ -94,7 +94,7 @@ fn copy_next(next: &TokenTreeRef<'_>, alloc: Global) -> std::result::Result<Toke
 }
 
 impl TokenTree {
-    /// What `try_clone` gives, where the type says that memory alone can be wanting.
+    /// The result of `try_clone`, whose error type says that only memory can be refused.
     fn copy(&self, alloc: Global) -> std::result::Result<TokenTree, AllocError>
         ensures { IfOk result (λ copy. copy ≡ self.now) }
     {
@@ -111,7 +111,7 @@ impl TokenTree {
         }
     }
 
-    /// The same tree once more, with the same spans, in memory from `alloc`; refused only where memory is.
+    /// A copy of the tree, with the same spans, in memory from `alloc`; fails only if memory is refused.
     pub fn try_clone(&self, alloc: Global) -> Result<TokenTree>
         ensures ok { IfOk result (λ copy. copy ≡ self.now) }
         ensures err { IfErr result (λ e. e ≡ []) }
@@ -121,14 +121,14 @@ impl TokenTree {
 }
 
 impl TokenStream {
-    /// What `try_clone` gives, where the type says that memory alone can be wanting.
+    /// The result of `try_clone`, whose error type says that only memory can be refused.
     pub(crate) fn copy(&self, alloc: Global) -> std::result::Result<TokenStream, AllocError>
         ensures { IfOk result (λ copy. copy ≡ self.now) }
     {
         self.cursor().to_stream(alloc)
     }
 
-    /// The same stream once more, with the same spans, in memory from `alloc`; refused only where memory is.
+    /// A copy of the stream, with the same spans, in memory from `alloc`; fails only if memory is refused.
     pub fn try_clone(&self, alloc: Global) -> Result<TokenStream>
         ensures ok { IfOk result (λ copy. copy ≡ self.now) }
         ensures err { IfErr result (λ e. e ≡ []) }
@@ -136,8 +136,8 @@ impl TokenStream {
         Ok(self.copy(alloc)?)
     }
 
-    /// A copy of the tree at this place, counted from 0 (a group counts as one); none where there is no such place.
-    /// Refused only where memory is.
+    /// A copy of the tree at this index, counted from 0 (a group counts as one); none if there is no such tree. Fails only if
+    /// memory is refused.
     #[tactic(auto, using(crate::proofs::Places::place_is, crate::proofs::Places::no_place))]
     pub fn get(&self, index: usize) -> Result<Option<TokenTree>>
         ensures ok { IfOk result (λ tree. stream_of (listed tree) ≡ place index self.now) }

@@ -1,4 +1,4 @@
-//! Token trees that stand one behind another in a stream.
+//! Cursors over the token trees of a stream.
 ghost use Rattle.std.specs.Prelude.{◌≡◌, ◌<◌, ◌^◌, [], ◌∷◌, ◌++◌, length, MatchOption};
 ghost use Rattle.syn_grammar.specs.Tokens.{end, ident, leaf, punct};
 ghost use Rattle.syn_grammar.specs.Take as grammar;
@@ -22,12 +22,12 @@ use crate::stream::entry::{Close, Entry, Token};
 use crate::stream::iter::Iter;
 use std::marker::Model;
 
-/// A place in a stream: the token trees that stand from there on, up to the end of the stream or of a group in it. They are
-/// lent, so a cursor takes no memory, and one more of the same place is made by `fork`.
+/// A position in a stream: the token trees from there on, up to the end of the stream or of the enclosing group. They are
+/// borrowed, so a cursor allocates nothing; `fork` makes another one at the same position.
 #[derive(Drop)]
 pub struct Cursor<'a> {
     entries: &'a [Entry],
-    /// How many trees they are.
+    /// The number of trees.
     trees: usize,
 }
 
@@ -45,7 +45,7 @@ impl<'a> Model for Cursor<'a> {
     ghost invariant = { λ c. IsFlat c.entries.now c.trees };
 }
 
-/// A group in a stream: its delimiters, where they stand, and a cursor over its content.
+/// A group in a stream: its delimiters, their spans, and a cursor over its content.
 #[derive(Drop)]
 pub struct GroupRef<'a> {
     pub delimiter: Delimiter,
@@ -54,7 +54,7 @@ pub struct GroupRef<'a> {
     pub content: Cursor<'a>,
 }
 
-/// A token tree in a stream, lent.
+/// A borrowed token tree.
 #[derive(Drop)]
 pub enum TokenTreeRef<'a> {
     Ident(IdentRef<'a>),
@@ -71,7 +71,7 @@ fn split_first(entries: &[Entry]) -> Option<(&Entry, &[Entry])>
     entries.split_first()
 }
 
-/// So many entries, the closing delimiter behind them, and the others.
+/// The first so many entries, the closing delimiter after them, and the others.
 #[inline(always)]
 fn split_close(entries: &[Entry], count: usize) -> Option<(&[Entry], Close, &[Entry])>
     ensures { MatchOption result (Closes entries.now count → ⊥)
@@ -89,7 +89,7 @@ fn split_close(entries: &[Entry], count: usize) -> Option<(&[Entry], Close, &[En
 }
 
 impl<'a> TokenTreeRef<'a> {
-    /// Where it stands; of a group, where its opening delimiter does.
+    /// The span; of a group, the span of its opening delimiter.
     pub fn span(&self) -> Span
         ensures { result ≡ next_span self.now }
     {
@@ -103,7 +103,7 @@ impl<'a> TokenTreeRef<'a> {
 }
 
 impl<'a> Cursor<'a> {
-    /// The trees of these entries, which are so many.
+    /// The cursor over these entries, which form so many trees.
     pub(crate) fn new(entries: &'a [Entry], trees: usize) -> Cursor<'a>
         requires { IsFlat entries.now trees }
         ensures { result ≡ decode entries.now }
@@ -111,7 +111,7 @@ impl<'a> Cursor<'a> {
         Cursor { entries, trees }
     }
 
-    /// A cursor over no tree.
+    /// An empty cursor.
     pub fn none() -> Cursor<'a>
         ensures { result ≡ end }
     {
@@ -121,7 +121,7 @@ impl<'a> Cursor<'a> {
         }
     }
 
-    /// A cursor of its own at the same place.
+    /// Another cursor at the same position.
     pub fn fork(&self) -> Cursor<'a>
         ensures { result ≡ self.now }
     {
@@ -131,22 +131,21 @@ impl<'a> Cursor<'a> {
         }
     }
 
-    /// Their entries.
+    /// The entries of the trees.
     pub(crate) fn entries(&self) -> &'a [Entry]
         ensures { result.now ≡ encode self.now }
     {
         self.entries
     }
 
-    /// How many trees stand from here on, each group counted as one.
+    /// The number of trees from here on; a group counts as one.
     pub fn len(&self) -> usize
         ensures { result ≡ grammar.length self.now }
     {
         self.trees
     }
 
-    /// The first tree, and a cursor behind it; none at the end. It takes no memory, and as little time for a group as for a
-    /// token.
+    /// The first tree, and a cursor after it; none at the end. It allocates nothing, and takes constant time even for a group.
     #[inline(always)]
     pub fn split(&self) -> Option<(TokenTreeRef<'a>, Cursor<'a>)>
         ensures { MatchOption result (self.now ≡ end) (λ p. self.now ≡ before_next p.0 p.1) }
@@ -183,8 +182,8 @@ impl<'a> Cursor<'a> {
         self.trees == 0
     }
 
-    /// The identifier that is the first tree, and a cursor behind it; none where another tree is the first, or there is none.
-    /// That it is none is told by a look at the kind of one token.
+    /// The identifier that is the first tree, and a cursor after it; none if the first tree is not an identifier, or there is
+    /// none. This depends on the kind of one token only.
     #[inline(always)]
     pub fn split_ident(&self) -> Option<(IdentRef<'a>, Cursor<'a>)>
         ensures { MatchOption result (NoIdentFirst self.now) (λ p. self.now ≡ leaf (ident p.0.text) (at p.0.span) p.1) }
@@ -194,8 +193,8 @@ impl<'a> Cursor<'a> {
         Some((ident, Cursor::new(rest, self.trees.saturating_sub(1))))
     }
 
-    /// The character of a mark that is the first tree, and a cursor behind it; none where another tree is the first, or there is
-    /// none. That it is none is told by a look at the kind of one token.
+    /// The character of a mark that is the first tree, and a cursor after it; none if the first tree is not such a character,
+    /// or there is none. This depends on the kind of one token only.
     #[inline(always)]
     pub fn split_punct(&self) -> Option<(Punct, Cursor<'a>)>
         ensures { MatchOption result (NoPunctFirst self.now) (λ p. self.now ≡ punct p.0.character (is_joint p.0.spacing) (at p.0.span) p.1) }
@@ -205,7 +204,7 @@ impl<'a> Cursor<'a> {
         Some((punct, Cursor::new(rest, self.trees.saturating_sub(1))))
     }
 
-    /// Whether a group with these delimiters is the first tree. It doesn't look for the end of the group.
+    /// Whether the first tree is a group with these delimiters. It doesn't search for the end of the group.
     #[inline(always)]
     pub fn is_at_group(&self, delimiter: Delimiter) -> bool
         ensures { result ≡ taken (take_group (delimiter_of delimiter) self.now) }
@@ -216,7 +215,7 @@ impl<'a> Cursor<'a> {
         }
     }
 
-    /// The trees from here on, in order and lent. It takes no memory.
+    /// The trees from here on, in order and borrowed. It allocates nothing.
     #[tactic(auto, using(crate::proofs::Walks::whole, crate::proofs::Walks::counted))]
     pub fn iter(&self) -> Iter<'a>
         ensures stream { result ≡ self.now }
@@ -226,7 +225,7 @@ impl<'a> Cursor<'a> {
         Iter::new(Cursor::new(self.entries, self.trees))
     }
 
-    /// Goes past so many trees, or past all where there are fewer.
+    /// Skips so many trees, or all if there are fewer.
     pub(crate) fn skip(&mut self, count: usize)
         ensures { self.new ≡ after count self.old }
     {
@@ -238,7 +237,7 @@ impl<'a> Cursor<'a> {
         }
     }
 
-    /// The entries of the first trees, of so many, or of all where there are fewer.
+    /// The entries of the first so many trees, or of all if there are fewer.
     pub(crate) fn front(&self, count: usize) -> &'a [Entry]
         ensures { result.now ≡ encode (grammar.first count self.now) }
     {

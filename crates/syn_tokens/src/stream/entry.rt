@@ -1,4 +1,4 @@
-//! What a token stream is kept as: one entry for each token, and two for each group, its delimiters.
+//! The entries of a token stream: one for each token, and two for each group, its delimiters.
 ghost use Rattle.std.specs.Prelude.{◌≡◌, IfOk, MatchOption};
 ghost use Rattle.syn_tokens.specs.Entries.{entry_span};
 ghost use Rattle.syn_tokens.specs.Firsts as firsts;
@@ -23,7 +23,7 @@ use std::rc::Rc;
 pub struct Open {
     pub delimiter: Delimiter,
     pub span: Span,
-    /// How many entries stand between it and its closing delimiter.
+    /// The number of entries between it and its closing delimiter.
     pub skip: usize,
 }
 
@@ -32,11 +32,11 @@ pub struct Open {
 pub struct Close {
     pub delimiter: Delimiter,
     pub span: Span,
-    /// How many token trees the group has.
+    /// The number of token trees in the group.
     pub trees: usize,
 }
 
-/// A token in a stream, or a delimiter of a group there.
+/// A token in a stream, or a delimiter of a group.
 #[derive(Drop)]
 pub enum Token<'a> {
     Ident(IdentRef<'a>),
@@ -46,27 +46,27 @@ pub enum Token<'a> {
     Close(Close),
 }
 
-/// A token, or a delimiter of a group, as a stream keeps it: in 16 bytes, where it has a compact span.
+/// The stored form of a token or delimiter: 16 bytes, if it has a compact span.
 #[derive(Drop)]
 pub struct Entry {
     inner: Packed,
 }
 
-/// What it is, and where it stands.
+/// The token or delimiter, with its span.
 #[derive(Drop)]
 enum Packed {
-    /// Whether it is a keyword, where it stands, and its text.
+    /// Whether it is a keyword, its span, and its text.
     Ident(bool, CompactSpan, Text),
     Literal(LitKind, CompactSpan, Text),
     Punct(Spacing, char, CompactSpan),
-    /// With how many entries there are before its closing delimiter.
+    /// With the number of entries before its closing delimiter.
     Open(Delimiter, CompactSpan, usize),
-    /// With how many token trees the group has.
+    /// With the number of token trees in the group.
     Close(Delimiter, CompactSpan, usize),
     Far(Rc<Far>),
 }
 
-/// What has no compact span.
+/// A token or delimiter whose span is not compact.
 #[derive(Drop)]
 enum Far {
     Ident(Ident),
@@ -90,7 +90,7 @@ impl Model for Entry {
 impl Far {
     ghost use Rattle.syn_tokens.specs.Packed.{far_token};
 
-    /// The token or delimiter itself.
+    /// The token or delimiter.
     fn token(&self) -> Token<'_>
         ensures { result ≡ far_token self.now }
     {
@@ -103,7 +103,7 @@ impl Far {
         }
     }
 
-    /// The identifier that it is.
+    /// The identifier, if it is one.
     #[cold]
     fn as_ident(&self) -> Option<IdentRef<'_>>
         ensures { MatchOption result (IsNoIdent (far_token self.now)) (λ ident. far_token self.now ≡ E.Ident ident) }
@@ -117,7 +117,7 @@ impl Far {
         }
     }
 
-    /// The character of a mark that it is.
+    /// The character of a mark, if it is one.
     #[cold]
     fn as_punct(&self) -> Option<Punct>
         ensures { MatchOption result (IsNoPunct (far_token self.now)) (λ punct. far_token self.now ≡ E.Punct punct) }
@@ -157,7 +157,7 @@ impl Entry {
         })
     }
 
-    /// The entry of an identifier. It takes memory only where the identifier has no compact span.
+    /// The entry of an identifier. It allocates only if the span is not compact.
     #[inline(always)]
     pub fn ident(alloc: Global, ident: Ident) -> Result<Entry, AllocError>
         ensures { IfOk result (λ entry. entry ≡ E.Ident ident) }
@@ -171,7 +171,7 @@ impl Entry {
         })
     }
 
-    /// The entry of a literal. It takes memory only where the literal has no compact span.
+    /// The entry of a literal. It allocates only if the span is not compact.
     #[inline(always)]
     pub fn literal(alloc: Global, literal: Literal) -> Result<Entry, AllocError>
         ensures { IfOk result (λ entry. entry ≡ E.Literal literal) }
@@ -185,7 +185,7 @@ impl Entry {
         })
     }
 
-    /// The entry of a mark's character. It takes memory only where that has no compact span.
+    /// The entry of a mark's character. It allocates only if the span is not compact.
     #[inline(always)]
     pub fn punct(alloc: Global, punct: Punct) -> Result<Entry, AllocError>
         ensures { IfOk result (λ entry. entry ≡ E.Punct punct) }
@@ -198,7 +198,7 @@ impl Entry {
         })
     }
 
-    /// The entry of an opening delimiter. It takes memory only where the delimiter has no compact span.
+    /// The entry of an opening delimiter. It allocates only if the span is not compact.
     #[inline(always)]
     pub(crate) fn open(alloc: Global, opening: Open) -> Result<Entry, AllocError>
         ensures { IfOk result (λ entry. entry ≡ E.Open opening) }
@@ -211,7 +211,7 @@ impl Entry {
         })
     }
 
-    /// The entry of a closing delimiter. It takes memory only where the delimiter has no compact span.
+    /// The entry of a closing delimiter. It allocates only if the span is not compact.
     #[inline(always)]
     pub(crate) fn close(alloc: Global, closing: Close) -> Result<Entry, AllocError>
         ensures { IfOk result (λ entry. entry ≡ E.Close closing) }
@@ -224,7 +224,7 @@ impl Entry {
         })
     }
 
-    /// The token or delimiter that it is.
+    /// The token or delimiter.
     #[inline(always)]
     pub fn token(&self) -> Token<'_>
         ensures { result ≡ self.now }
@@ -253,7 +253,7 @@ impl Entry {
         }
     }
 
-    /// The identifier that it is; none where it is something else, which takes a look at its kind alone.
+    /// The identifier; none if it is something else, which depends on its kind only.
     #[inline(always)]
     pub(crate) fn as_ident(&self) -> Option<IdentRef<'_>>
         ensures { MatchOption result (IsNoIdent self.now) (λ ident. self.now ≡ E.Ident ident) }
@@ -270,7 +270,7 @@ impl Entry {
         }
     }
 
-    /// The character of a mark that it is; none where it is something else, which takes a look at its kind alone.
+    /// The character of a mark; none if it is something else, which depends on its kind only.
     #[inline(always)]
     pub(crate) fn as_punct(&self) -> Option<Punct>
         ensures { MatchOption result (IsNoPunct self.now) (λ punct. self.now ≡ E.Punct punct) }
@@ -302,8 +302,7 @@ impl Entry {
         }
     }
 
-    /// The same entry once more, with the same span. It takes no memory, and is refused only where 2^64 - 1 copies of it or
-    /// of its text are there.
+    /// A copy with the same span. It allocates nothing, and fails only if there are 2^64 - 1 copies of it or of its text.
     pub fn copy(&self) -> Result<Entry, AllocError>
         ensures { IfOk result (λ entry. entry ≡ self.now) }
     {
@@ -318,7 +317,7 @@ impl Entry {
         Ok(Entry { inner })
     }
 
-    /// Where it stands.
+    /// The span.
     pub fn span(&self) -> Span
         ensures { result ≡ entry_span self.now }
     {

@@ -8,8 +8,8 @@ use crate::stream::cursor::{Cursor, TokenTreeRef};
 use std::alloc::AllocError;
 use std::marker::Model;
 
-/// The trees of a stream or of a group in it, in order. They are lent; a group is one tree, which is stepped over in as little
-/// time as a token, and its content can be gone through by an iterator of its own.
+/// The trees of a stream or of a group in it, in order and borrowed. A group is one tree, which is skipped in constant time
+/// like a token; its content has an iterator of its own.
 #[derive(Drop)]
 pub struct Iter<'a> {
     rest: Cursor<'a>,
@@ -27,7 +27,7 @@ impl<'a> Model for Iter<'a> {
 }
 
 impl TokenStream {
-    /// Its trees, in order and lent. It takes no memory.
+    /// The trees, in order and borrowed. It allocates nothing.
     pub fn iter(&self) -> Iter<'_>
         ensures stream { result ≡ self.now }
         ensures whole { in_turn (trees_of result) ≡ self.now }
@@ -38,7 +38,7 @@ impl TokenStream {
 }
 
 impl<'a> Iter<'a> {
-    /// The trees from this place on.
+    /// The trees from this position on.
     pub(super) fn new(rest: Cursor<'a>) -> Iter<'a>
         ensures { result ≡ rest.entry }
     {

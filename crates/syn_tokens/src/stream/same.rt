@@ -9,8 +9,8 @@ use crate::stream::TokenStream;
 use crate::stream::entry::{Entry, Token};
 use crate::stream::tree::TokenTree;
 
-/// Whether both are the same token, or the same delimiter. Closing delimiters are not told apart: groups are told apart by the
-/// delimiters that open them.
+/// Whether both are the same token, or the same delimiter. All closing delimiters count as the same: the opening delimiters
+/// distinguish the groups.
 fn same_entry(a: &Entry, b: &Entry) -> bool
     ensures { result ≡ same_entry a.now b.now }
 {
@@ -25,7 +25,7 @@ fn same_entry(a: &Entry, b: &Entry) -> bool
     }
 }
 
-/// Whether both are the same entries in turn.
+/// Whether both have the same entries in order.
 #[tactic(auto, using(crate::proofs::SameEntries::unlike_lengths))]
 fn same_entries(a: &[Entry], b: &[Entry]) -> bool
     ensures { result ≡ same_entries a.now b.now }
@@ -33,7 +33,7 @@ fn same_entries(a: &[Entry], b: &[Entry]) -> bool
     a.len() == b.len() && a.iter().zip(b).all(|(x, y)| same_entry(x, y))
 }
 
-/// Two are equal exactly where they are once every span is 0 to 0: the same tokens with the same spacing.
+/// Two are equal exactly if they are once every span is 0 to 0: the same tokens with the same spacing.
 impl PartialEq for TokenStream {
     ghost use Rattle.syn_tokens.specs.SameStreams.{same_stream_per};
 

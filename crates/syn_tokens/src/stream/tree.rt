@@ -13,9 +13,9 @@ use crate::stream::TokenStream;
 pub struct Group {
     pub delimiter: Delimiter,
     pub stream: TokenStream,
-    /// Where the opening delimiter stands.
+    /// The span of the opening delimiter.
     pub opening: Span,
-    /// Where the closing delimiter stands.
+    /// The span of the closing delimiter.
     pub closing: Span,
 }
 
@@ -31,7 +31,7 @@ pub enum TokenTree {
 impl TokenTree {
     ghost use Rattle.syn_tokens.specs.Trees.{span_of};
 
-    /// Where it stands; of a group, where its opening delimiter does.
+    /// The span; of a group, the span of its opening delimiter.
     pub fn span(&self) -> Span
         ensures { result ≡ span_of self.now }
     {

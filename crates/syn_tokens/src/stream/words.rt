@@ -1,4 +1,4 @@
-//! One text for a word that is printed in many places.
+//! Sharing the text of words that are printed often.
 ghost use Rattle.std.specs.Prelude.{◌≡◌, IsTrue, IfOk};
 ghost use Rattle.syn_tokens.specs.Idents.{is_identifier};
 
@@ -6,10 +6,10 @@ use crate::ident::Ident;
 use crate::span::Span;
 use std::alloc::{AllocError, Global};
 
-/// How many words are kept at most.
+/// The largest number of words that are kept.
 const MOST: usize = 16;
 
-/// The first words that were printed, so that one that is printed again shares its text.
+/// The first words that were printed, so that later copies of them share the text.
 #[derive(Drop)]
 pub(super) struct Words {
     kept: Vec<Ident>,
@@ -17,7 +17,7 @@ pub(super) struct Words {
 }
 
 impl Words {
-    /// Keeps none yet, which takes no memory.
+    /// Keeps no words yet; allocates nothing.
     pub(super) fn new(alloc: Global) -> Words {
         Words {
             kept: Vec::new(alloc),
@@ -25,7 +25,8 @@ impl Words {
         }
     }
 
-    /// The identifier of this text, which is known to be one. It shares the text of the same word, where that is kept.
+    /// The identifier of this text, which is known to be one. It shares the text of a kept identifier, if one has the same
+    /// text.
     pub(super) fn ident(&mut self, text: &str, span: Span) -> Result<Ident, AllocError>
         requires { IsTrue (is_identifier text.now) }
         ensures { IfOk result (λ i. i ≡ record { text = text.now; span = span }) }

@@ -1,4 +1,4 @@
-//! Comparisons that take no account of spans.
+//! Comparisons that ignore spans.
 ghost use Rattle.std.specs.Prelude.{◌≡◌, ◌↔◌, IsTrue};
 ghost use Rattle.syn_grammar.specs.Grammar.{plain_syntax};
 ghost use Rattle.syn_grammar.specs.Same.{same_syntax};
@@ -14,9 +14,9 @@ use crate::stream::TokenStream;
 use crate::syntactic::Syntactic;
 use crate::token::{Mark, MarkKind, Word, WordKind};
 
-/// What can be compared whatever the spans.
+/// Values that can be compared without their spans.
 pub trait Compared: Syntactic {
-    /// Whether both stand for the same syntax, where spans don't count.
+    /// Whether both represent the same syntax, ignoring spans.
     fn is_same(&self, other: &Self) -> bool
         ensures same { result ≡ same_syntax (Self.syntax self.now) (Self.syntax other.now) };
 }
@@ -63,7 +63,7 @@ impl<K: MarkKind<N>, const N: usize> Compared for Mark<K, N> {
     }
 }
 
-/// Both are there and the same, or neither is there.
+/// Both are present and the same, or both are absent.
 impl<T: Compared> Compared for Option<T> {
     fn is_same(&self, other: &Option<T>) -> bool {
         match (self, other) {
@@ -87,7 +87,7 @@ impl<T: Compared, P: Compared> Compared for (T, P) {
     }
 }
 
-/// As many, and the same in turn.
+/// The same length, and the same values in order.
 impl<T: Compared> Compared for Vec<T> {
     fn is_same(&self, other: &Vec<T>) -> bool {
         same_in_order(self.as_slice(), other.as_slice())
@@ -104,7 +104,7 @@ fn same_in_order<T: Compared>(a: &[T], b: &[T]) -> bool
 impl<T: Compared, P: Compared> Punctuated<T, P> {
     ghost use Rattle.syn_tokens.specs.Listing.{list_of, joined_of};
 
-    /// Whether both have the same values and separators in turn, where spans don't count.
+    /// Whether both have the same values and separators in order, ignoring spans.
     #[tactic(auto, using(crate::proofs::Comparisons::same_list, crate::proofs::Comparisons::same_joined))]
     pub fn is_same(&self, other: &Punctuated<T, P>) -> bool
         ensures list { result ≡ same_syntax (list_of T.syntax P.syntax self.now.pairs self.now.last) (list_of T.syntax P.syntax other.now.pairs other.now.last) }
@@ -128,7 +128,7 @@ impl<T: Compared, P: Compared> Compared for Punctuated<T, P> {
     }
 }
 
-/// Two are equal exactly where they are once every span is 0 to 0: the same values and separators in turn.
+/// Two are equal exactly if they are once every span is 0 to 0: the same values and separators in order.
 impl<T: Compared, P: Compared> PartialEq for Punctuated<T, P> {
     ghost eq = { same_by (syntax_of_list T.syntax P.syntax) };
 

@@ -1,4 +1,4 @@
-//! Copies, which may want memory.
+//! Fallible copies.
 ghost use Rattle.std.specs.Prelude.{◌≡◌, [], map, IfOk, IfErr, None};
 
 use crate::error::Result;
@@ -11,9 +11,9 @@ use crate::syntactic::Syntactic;
 use crate::token::{Mark, MarkKind, Word, WordKind};
 use std::alloc::Global;
 
-/// What can be copied, where memory for it is there.
+/// Values that can be copied, if memory allows.
 pub trait TryClone: Syntactic {
-    /// A copy that stands for the same syntax, spans included, in memory from `alloc`. It is refused only where memory is.
+    /// A copy that represents the same syntax, spans included, in memory from `alloc`. Fails only if memory is refused.
     fn try_clone(&self, alloc: Global) -> Result<Self>
         ensures copy { IfOk result (λ copy. Self.syntax copy ≡ Self.syntax self.now) }
         ensures memory { IfErr result (λ e. e ≡ []) };
@@ -93,7 +93,7 @@ impl<T: TryClone + Drop, P: TryClone + Drop> Punctuated<T, P> {
     ghost use Rattle.syn_tokens.specs.Listing.{list_of, joined_of};
     ghost use Rattle.syn_tokens.specs.InOrder.{pair_of};
 
-    /// A copy of the values and separators, in memory from `alloc`. It is refused only where memory is.
+    /// A copy of the values and separators, in memory from `alloc`. Fails only if memory is refused.
     #[tactic(auto, using(crate::proofs::Copied::copied_list, crate::proofs::Copied::copied_joined))]
     pub fn try_clone(&self, alloc: Global) -> Result<Punctuated<T, P>>
         ensures list { IfOk result (λ copy. list_of T.syntax P.syntax copy.pairs copy.last ≡ list_of T.syntax P.syntax self.now.pairs self.now.last) }
@@ -110,7 +110,7 @@ impl<T: TryClone + Drop, P: TryClone + Drop> Punctuated<T, P> {
         }
     }
 
-    /// A copy of the values that a separator follows, and of those.
+    /// A copy of the pairs of values and separators.
     fn copy_pairs(&self, alloc: Global) -> Result<Punctuated<T, P>>
         ensures pairs { IfOk result (λ copy. map (pair_of T.syntax P.syntax) copy.pairs ≡ map (pair_of T.syntax P.syntax) self.now.pairs) }
         ensures last { IfOk result (λ copy. copy.last ≡ None) }

@@ -1,4 +1,4 @@
-//! Kinds of marks, by one, two or three characters.
+//! Kinds of marks, of one, two or three characters.
 ghost use Rattle.std.specs.Prelude.{◌≡◌, ℕ, ◌∷◌, [], true, OnOk};
 ghost use Rattle.syn_grammar.specs.Tokens.{end, ◌⧺◌};
 ghost use Rattle.syn_grammar.specs.Grammar.{spell};
@@ -20,7 +20,7 @@ pub trait OneCharacter {
     fn character() -> char
         ensures { result ≡ character };
 
-    /// What a fault says where it was expected: ``expected `;` ``, with its characters.
+    /// The error message if the mark is missing: ``expected `;` ``, with its characters.
     fn expected() -> &'static str
         ensures { result.now ≡ expected (character ∷ []) };
 
@@ -37,7 +37,7 @@ pub trait TwoCharacters {
     fn characters() -> (char, char)
         ensures { result ≡ (first, second) };
 
-    /// What a fault says where it was expected: ``expected `;` ``, with its characters.
+    /// The error message if the mark is missing: ``expected `;` ``, with its characters.
     fn expected() -> &'static str
         ensures { result.now ≡ expected (first ∷ second ∷ []) };
 
@@ -59,7 +59,7 @@ pub trait ThreeCharacters {
     fn characters() -> (char, char, char)
         ensures { result ≡ (first, second, third) };
 
-    /// What a fault says where it was expected: ``expected `;` ``, with its characters.
+    /// The error message if the mark is missing: ``expected `;` ``, with its characters.
     fn expected() -> &'static str
         ensures { result.now ≡ expected (first ∷ second ∷ third ∷ []) };
 

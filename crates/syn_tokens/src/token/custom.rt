@@ -1,4 +1,4 @@
-//! Keywords and marks of own syntaxes, which the grammar of Rust need not know.
+//! Custom keywords and marks, which the grammar of Rust need not know.
 ghost use Rattle.std.specs.Prelude.{◌≡◌, ◌<◌, ◌+◌, nat_lt, true, IfOk};
 ghost use Rattle.syn_grammar.specs.Words.{Text};
 ghost use Rattle.syn_tokens.specs.Spelled.{is_plain_word};
@@ -18,7 +18,7 @@ use crate::syntactic::try_clone::TryClone;
 use std::alloc::{AllocError, Global};
 use std::marker::PhantomData;
 
-/// A kind of keyword of an own syntax, by its text: ASCII letters and `_`.
+/// A kind of custom keyword, by its text: ASCII letters and `_`.
 pub trait CustomKeywordKind {
     ghost text: { Text };
 
@@ -26,16 +26,16 @@ pub trait CustomKeywordKind {
     fn text() -> &'static str
         ensures { result.now ≡ text };
 
-    /// What a fault says where it was expected: ``expected `route` ``, with its text.
+    /// The error message if the keyword is missing: ``expected `route` ``, with its text.
     fn expected() -> &'static str
         ensures { result.now ≡ expected text };
 
-    /// It is spelled by ASCII letters and `_`.
+    /// It consists of ASCII letters and `_`.
     ghost plain: { is_plain_word text ≡ true };
 }
 
-/// A keyword of an own syntax: the identifier of this text, whether or not it is a keyword of Rust. Those of one kind are
-/// equal, wherever they stand.
+/// A custom keyword: the identifier of this text, whether or not it is a keyword of Rust. Keywords of one kind are equal; spans
+/// are ignored.
 #[derive_where(Clone, Copy, Debug, PartialEq, Eq)]
 pub struct CustomKeyword<K> {
     #[derive_where(skip(EqHashOrd))]
@@ -44,7 +44,7 @@ pub struct CustomKeyword<K> {
 }
 
 impl<K> CustomKeyword<K> {
-    /// The keyword, at this place.
+    /// The keyword with this span.
     pub fn new(span: Span) -> CustomKeyword<K>
         ensures { result.span ≡ span }
     {
@@ -56,7 +56,7 @@ impl<K> CustomKeyword<K> {
 }
 
 impl<K> Default for CustomKeyword<K> {
-    /// The keyword at no place of a text: its span is 0 to 0.
+    /// The keyword without a position: its span is 0 to 0.
     fn default() -> CustomKeyword<K>
         ensures { result.span ≡ record { start = 0; end = 0 } }
     {
@@ -65,7 +65,7 @@ impl<K> Default for CustomKeyword<K> {
 }
 
 impl<K: CustomKeywordKind> CustomKeyword<K> {
-    /// The keyword as an identifier; refused only where memory is.
+    /// The keyword as an identifier; fails only if memory is refused.
     #[tactic(auto, using(crate::specs::Spelled::word_is_identifier))]
     pub fn to_ident(&self, alloc: Global) -> Result<Ident, AllocError>
         ensures { IfOk result (λ i. i ≡ record { text = K.text; span = self.now.span }) }
@@ -101,7 +101,7 @@ impl<K: CustomKeywordKind> Print for CustomKeyword<K> {
 
 impl<K: CustomKeywordKind> ToTokens for CustomKeyword<K> {}
 
-/// A kind of mark of an own syntax, by its `N` characters, two or three.
+/// A kind of custom mark, by its `N` characters, two or three.
 pub trait CustomPunctuationKind<const N: usize> {
     ghost text: { Text };
 
@@ -109,7 +109,7 @@ pub trait CustomPunctuationKind<const N: usize> {
     fn characters() -> [char; N]
         ensures { result ≡ text };
 
-    /// What a fault says where it was expected: ``expected `~>` ``, with its characters.
+    /// The error message if the mark is missing: ``expected `~>` ``, with its characters.
     fn expected() -> &'static str
         ensures { result.now ≡ expected text };
 
@@ -117,18 +117,18 @@ pub trait CustomPunctuationKind<const N: usize> {
     ghost printable: { all_punct text ≡ true };
 }
 
-/// A mark of an own syntax: these characters, all but the last Joint, whether or not they are a mark of Rust. Those of one
-/// kind are equal, wherever they stand.
+/// A custom mark: these characters, all but the last joint, whether or not they are a mark of Rust. Marks of one kind are
+/// equal; spans are ignored.
 #[derive_where(Clone, Copy, Debug, PartialEq, Eq)]
 pub struct CustomPunctuation<K, const N: usize> {
-    /// Where its characters stand.
+    /// The spans of its characters.
     #[derive_where(skip(EqHashOrd))]
     pub spans: [Span; N],
     kind: PhantomData<K>,
 }
 
 impl<K, const N: usize> CustomPunctuation<K, N> {
-    /// The mark, its characters at these places.
+    /// The mark with these spans of its characters.
     pub fn new(spans: [Span; N]) -> CustomPunctuation<K, N>
         ensures { result.spans ≡ spans.entry }
     {
@@ -168,7 +168,7 @@ impl<K: CustomPunctuationKind<N>, const N: usize> Print for CustomPunctuation<K,
     }
 }
 
-/// The spacing of the character of this number in a mark of so many.
+/// The spacing of the character at this index in a mark of so many.
 fn spacing(index: usize, count: usize) -> Spacing
     requires { index < count }
     ensures { is_joint result ≡ nat_lt (index + 1) count }

@@ -19,17 +19,17 @@ pub trait DelimiterKind {
     fn delimiter() -> Delimiter
         ensures { delimiter_of result ≡ delimiter };
 
-    /// What a fault says where they were expected.
+    /// The error message if the group is missing.
     ghost fault: { Text };
 
-    /// The text of that fault, such as `expected parentheses`.
+    /// The text of that message, such as `expected parentheses`.
     fn expected() -> &'static str
         ensures { result.now ≡ fault };
 
     ghost use Rattle.syn_tokens.specs.Delimiters.{delimiter_of};
 }
 
-/// The two delimiters of a group. Those of one kind are equal, wherever they stand.
+/// The two delimiters of a group. Delimiters of one kind are equal; spans are ignored.
 #[derive_where(Clone, Copy, Debug, PartialEq, Eq)]
 pub struct Delimiters<K> {
     #[derive_where(skip(EqHashOrd))]
@@ -40,7 +40,7 @@ pub struct Delimiters<K> {
 }
 
 impl<K> Delimiters<K> {
-    /// The delimiters, at these places.
+    /// The delimiters with these spans.
     pub fn new(opening: Span, closing: Span) -> Delimiters<K>
         ensures open { result.opening ≡ opening }
         ensures close { result.closing ≡ closing }
@@ -54,7 +54,7 @@ impl<K> Delimiters<K> {
 }
 
 impl<K> Default for Delimiters<K> {
-    /// The delimiters at no place of a text: their spans are 0 to 0.
+    /// The delimiters without a position: their spans are 0 to 0.
     fn default() -> Delimiters<K>
         ensures open { result.opening ≡ record { start = 0; end = 0 } }
         ensures close { result.closing ≡ record { start = 0; end = 0 } }
@@ -64,7 +64,7 @@ impl<K> Default for Delimiters<K> {
 }
 
 impl<K: DelimiterKind> Delimiters<K> {
-    /// Goes into a group with these delimiters.
+    /// Opens a group with these delimiters.
     #[tactic(auto, using(crate::proofs::Prints::opened_group))]
     pub fn open(&self, out: &mut StreamBuilder) -> Result<(), AllocError>
         ensures opens { OnOk result (out.new ≡ into_group K.delimiter (at self.now.opening) out.old) }
@@ -73,7 +73,7 @@ impl<K: DelimiterKind> Delimiters<K> {
         out.open(K::delimiter(), self.opening)
     }
 
-    /// Goes out of the innermost open group, with the closing delimiter of these.
+    /// Closes the innermost open group, with this closing delimiter.
     pub fn close(&self, out: &mut StreamBuilder) -> Result<(), AllocError>
         requires { is_open out.old ≡ true }
         ensures closes { OnOk result (out.new ≡ out_of_group (at self.now.closing) out.old) }

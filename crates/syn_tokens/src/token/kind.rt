@@ -1,3 +1,5 @@
+//! Written by tools/tokens.py; edits are lost.
+//!
 //! The kinds of words, marks and delimiters of groups.
 
 mod declarations;

@@ -17,27 +17,27 @@ use std::marker::PhantomData;
 pub trait MarkKind<const N: usize> {
     ghost text: { Text };
 
-    /// Adds the mark, its characters at these places, at the end of what is being built.
+    /// Appends the mark, its characters with these spans.
     fn print(spans: &[Span; N], out: &mut StreamBuilder) -> Result<(), AllocError>
         ensures prints { OnOk result (out.new ≡ added out.old (spell (placed text spans.now) end)) }
         ensures begins { out.new.before ≡ out.old.before };
 
-    /// What a fault says where it was expected.
+    /// The error message if the mark is missing.
     fn expected() -> &'static str
         ensures { result.now ≡ expected text };
 }
 
-/// A mark of `N` characters, such as `::`. Marks of one kind are equal, wherever they stand.
+/// A mark of `N` characters, such as `::`. Marks of one kind are equal; spans are ignored.
 #[derive_where(Clone, Copy, Debug, PartialEq, Eq)]
 pub struct Mark<K, const N: usize> {
-    /// Where its characters stand.
+    /// The spans of its characters.
     #[derive_where(skip(EqHashOrd))]
     pub spans: [Span; N],
     kind: PhantomData<K>,
 }
 
 impl<K, const N: usize> Mark<K, N> {
-    /// The mark, its characters at these places.
+    /// The mark with these spans of its characters.
     pub fn new(spans: [Span; N]) -> Mark<K, N>
         ensures { result.spans ≡ spans.entry }
     {
@@ -49,7 +49,7 @@ impl<K, const N: usize> Mark<K, N> {
 }
 
 impl<K, const N: usize> Default for Mark<K, N> {
-    /// The mark at no place of a text: each of its characters has the span 0 to 0.
+    /// The mark without a position: each of its characters has the span 0 to 0.
     fn default() -> Mark<K, N>
         ensures { result.spans ≡ replicate N (record { start = 0; end = 0 }) }
     {

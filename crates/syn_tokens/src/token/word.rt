@@ -19,18 +19,18 @@ pub trait WordKind {
     fn text() -> &'static str
         ensures { result.now ≡ text };
 
-    /// What a fault says where it was expected: ``expected `struct` ``, with its text.
+    /// The error message if the word is missing: ``expected `struct` ``, with its text.
     fn expected() -> &'static str
         ensures { result.now ≡ expected text };
 
-    /// Some rule of the grammar may ask for it.
+    /// Some rule of the grammar may require it.
     ghost known: { is_known_word text ≡ true };
 
-    /// It is spelled by letters, or is `_`.
+    /// It consists of letters, or is `_`.
     ghost plain: { is_plain_word text ≡ true };
 }
 
-/// A word, such as `struct`. Words of one kind are equal, wherever they stand.
+/// A word, such as `struct`. Words of one kind are equal; spans are ignored.
 #[derive_where(Clone, Copy, Debug, PartialEq, Eq)]
 pub struct Word<K> {
     #[derive_where(skip(EqHashOrd))]
@@ -39,7 +39,7 @@ pub struct Word<K> {
 }
 
 impl<K> Word<K> {
-    /// The word, at this place.
+    /// The word with this span.
     pub fn new(span: Span) -> Word<K>
         ensures { result.span ≡ span }
     {
@@ -51,7 +51,7 @@ impl<K> Word<K> {
 }
 
 impl<K> Default for Word<K> {
-    /// The word at no place of a text: its span is 0 to 0.
+    /// The word without a position: its span is 0 to 0.
     fn default() -> Word<K>
         ensures { result.span ≡ record { start = 0; end = 0 } }
     {

@@ -12,7 +12,7 @@ use syn_tokens::span::Span;
 use syn_tokens::stream::TokenStream;
 use syn_tokens::token;
 
-/// One byte each; `x` stands at 11.
+/// One byte each; `x` is at 11.
 const SAMPLE: &str = "pub a :: ' b 1 <<= ( x )";
 
 /// Whether such a value is read.
@@ -70,7 +70,7 @@ fn is_group_seen(input: &ParseBuffer<'_>) -> bool {
         && input.peek_group::<token::kind::Paren>().is_some()
 }
 
-/// Whether one name stands there, and then the closing delimiter at 12.
+/// Whether one name is there, and then the closing delimiter at 12.
 fn is_content_read(content: &mut ParseBuffer<'_>) -> bool {
     skip::<Option<Ident>>(content)
         && content.read_end().is_ok()
@@ -89,7 +89,7 @@ fn is_group_read(input: &mut ParseBuffer<'_>) -> bool {
     }
 }
 
-/// Behind the group stands the end, behind the last byte.
+/// The end follows the group, after the last byte.
 #[test]
 fn groups_and_ends(rt: HostRuntime) {
     let sample = stream(&rt, rt.alloc(), SAMPLE);
@@ -107,7 +107,7 @@ fn looking_past_trees(rt: HostRuntime) {
     assert!(rt; skip_path(&mut input) && input.peek2::<Literal>() && input.peek3::<token::ShlEq>());
 }
 
-/// Whether a word that doesn't stand there is read as none, and one that does as itself.
+/// Whether a word that isn't there is read as none, and one that is as itself.
 fn are_optional_read(input: &mut ParseBuffer<'_>) -> Parsed<bool> {
     let none: Option<token::Struct> = input.read()?;
     let some: Option<token::Pub> = input.read()?;
@@ -126,7 +126,7 @@ fn optional_and_boxed(rt: HostRuntime) {
     assert!(rt; matches!(are_optional_read(&mut input), Ok(true)) && is_box_read(&mut input));
 }
 
-/// A `,` is refused behind `pub`, and the name there is still read.
+/// A `,` is refused after `pub`, and the name there is still read.
 #[test]
 fn refused_parses_stay(rt: HostRuntime) {
     let sample = stream(&rt, rt.alloc(), SAMPLE);
@@ -178,7 +178,7 @@ fn set_back(rt: HostRuntime) {
     assert!(rt; input.peek_group::<token::kind::Paren>().is_none() && input.peek::<token::Pub>());
 }
 
-/// `Self :: >>=`, printed one behind the other.
+/// `Self :: >>=`, printed one after the other.
 fn three_printed(alloc: Global) -> Result<TokenStream> {
     let mut out = printed(alloc, &token::SelfType::default())?;
     out.append(printed(alloc, &token::PathSep::new([Span::call_site(); 2]))?)?;

@@ -157,7 +157,7 @@ fn copies_of_marks(rt: HostRuntime) {
     assert!(rt; mark.is_same(&elsewhere) && mark == elsewhere);
 }
 
-/// What the three print, one behind another.
+/// What the three print, one after another.
 fn three_printed(alloc: Global) -> Result<TokenStream> {
     let mut out = printed(alloc, &Route::new(HERE))?;
     BothWays::new([at(1), at(2), at(3)]).to_tokens(&mut out)?;

@@ -165,7 +165,7 @@ fn shorter(rt: HostRuntime) {
     }
 }
 
-/// Of the sample first the last tree goes, then the group; then the sample stands behind what is left.
+/// Of the sample first the last tree goes, then the group; then the sample follows what is left.
 #[test]
 fn longer(rt: HostRuntime) {
     let mut sample = stream(&rt, rt.alloc(), SAMPLE);
@@ -184,7 +184,7 @@ fn has(stream: &TokenStream, trees: usize, entries: usize) -> bool {
     stream.len() == trees && stream.entries().len() == entries
 }
 
-/// A name and a group in braces are read, and a name stands behind the group.
+/// A name and a group in braces are read, and a name follows the group.
 #[test]
 fn parts(rt: HostRuntime) {
     let sample = stream(&rt, rt.alloc(), SAMPLE);
@@ -199,8 +199,8 @@ fn parts(rt: HostRuntime) {
 
 const UNBALANCED: &str = "unbalanced group";
 
-/// A `)` that belongs to no open group is refused where it stands, and one behind a `{` too. A stream ends with no group
-/// open: the outermost is told.
+/// A `)` that belongs to no open group is refused at its place, and one after a `{` too. A stream ends with no group
+/// open: the outermost is reported.
 #[test]
 fn unbalanced(rt: HostRuntime) {
     let mut builder = StreamBuilder::new(rt.alloc());

@@ -1,4 +1,4 @@
-//! What a stream keeps of its tokens, wherever they stand.
+//! What a stream keeps of its tokens, spans aside.
 use crate::tests::support::{at, is_shown, stream, tokens_from};
 use std::alloc::Global;
 use std::mem::size_of;
@@ -210,7 +210,7 @@ fn marks(alloc: Global, count: usize) -> Result<TokenStream> {
     Ok(stream)
 }
 
-/// So many `;`, and a group behind them with so many.
+/// So many `;`, and a group after them with so many.
 fn grouped(alloc: Global, before: usize, inside: usize) -> Result<TokenStream> {
     let mut stream = marks(alloc, before)?;
     stream.push(TokenTree::Group(Group {
@@ -242,9 +242,9 @@ fn has_group(stream: &TokenStream, place: usize, count: usize) -> bool {
     matches!(stream.get(place), Ok(Some(tree)) if is_group_of_marks(&tree, count))
 }
 
-/// A group behind fewer tokens than it has, behind as many, and behind more; the tokens are left where it is taken away.
+/// A group after fewer tokens than it has, after as many, and after more; the tokens are left where it is taken away.
 #[test]
-fn groups_behind_tokens(rt: HostRuntime) {
+fn groups_after_tokens(rt: HostRuntime) {
     for (before, inside) in [(0, 0), (0, 9), (2, 9), (9, 9), (9, 2), (9, 0)] {
         let mut stream = grouped(rt.alloc(), before, inside).expect(&rt, "a stream");
         let entries = before.saturating_add(inside).saturating_add(2);

@@ -60,7 +60,7 @@ fn three() -> Error {
     error
 }
 
-/// Whether the faults stand at 0, 1 and so on, in this number.
+/// Whether the faults are at 0, 1 and so on, in this number.
 fn are_in_order(error: &Error, count: usize) -> bool {
     let is_there = |place: usize| match error.faults().get(place) {
         Some(fault) => fault.span == at(place),

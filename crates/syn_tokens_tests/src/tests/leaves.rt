@@ -106,7 +106,7 @@ fn literals(rt: HostRuntime) {
     }
 }
 
-/// Literals are equal wherever they stand.
+/// Literals are equal spans aside.
 #[test]
 fn equal_literals(rt: HostRuntime) {
     let one = Literal::new(rt.alloc(), LitKind::Int, "1", SPAN).expect(&rt, "a literal");

@@ -19,7 +19,7 @@ fn numbers(alloc: Global, is_closed: bool) -> Result<Numbers, AllocError> {
     Ok(list)
 }
 
-/// Whether there are so many values, and a separator stands behind the last one.
+/// Whether there are so many values, and a separator follows the last one.
 fn is_long(list: &Numbers, length: usize, is_trailing: bool) -> bool {
     list.len() == length
         && list.is_empty() == (length == 0)
@@ -27,7 +27,7 @@ fn is_long(list: &Numbers, length: usize, is_trailing: bool) -> bool {
         && list.empty_or_trailing() == (length == 0 || is_trailing)
 }
 
-/// Whether these are the first value, the last one, and the last one if no separator stands behind it.
+/// Whether these are the first value, the last one, and the last one if no separator follows it.
 fn has_ends(list: &Numbers, ends: [Option<u32>; 3]) -> bool {
     list.first().copied() == ends[0]
         && list.last().copied() == ends[1]
@@ -69,7 +69,7 @@ fn from_both_ends(rt: HostRuntime) {
     assert!(rt; are_numbers(&mut closed.iter()));
 }
 
-/// A copy of an iterator goes on from where that stands, and leaves it there.
+/// A copy of an iterator continues from its span, and leaves it there.
 #[test]
 fn copied_iterators(rt: HostRuntime) {
     let list = numbers(rt.alloc(), false).expect(&rt, "a list");

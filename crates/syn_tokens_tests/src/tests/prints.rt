@@ -15,20 +15,20 @@ use syn_tokens::stream::builder::StreamBuilder;
 use syn_tokens::token::{Comma, DelimiterKind, Delimiters, Pub, kind};
 use syn_whole::parse::parse2;
 
-/// What a value prints behind an `x`.
-fn print_behind<T: ToTokens>(alloc: Global, value: &T) -> Result<TokenStream> {
+/// What a value prints after an `x`.
+fn print_after<T: ToTokens>(alloc: Global, value: &T) -> Result<TokenStream> {
     let mut out = tokens(alloc, "x")?;
     value.to_tokens(&mut out)?;
     Ok(out)
 }
 
-/// What the text, parsed, prints behind an `x`.
+/// What the text, parsed, prints after an `x`.
 fn reprinted<T: Parse + ToTokens + Drop>(alloc: Global, text: &str) -> Result<TokenStream> {
     let value: T = parse2(tokens(alloc, text)?)?;
-    print_behind(alloc, &value)
+    print_after(alloc, &value)
 }
 
-/// Fails where what the text, parsed, prints behind an `x` is shown by another text.
+/// Fails where what the text, parsed, prints after an `x` is shown by another text.
 fn assert_reprinted<T: Parse + ToTokens + Drop>(
     rt: &impl Abort,
     alloc: Global,
@@ -55,14 +55,14 @@ fn values(rt: HostRuntime) {
 #[test]
 fn streams(rt: HostRuntime) {
     let stream = stream(&rt, rt.alloc(), "a ( b )");
-    let out = print_behind(rt.alloc(), &stream).expect(&rt, "a print");
+    let out = print_after(rt.alloc(), &stream).expect(&rt, "a print");
     assert_shown(&rt, &out, "x@0..1 a@0..1 (@1..2 b@2..3 )@3..4");
 }
 
-/// What the list of names that a stream spells prints behind an `x`.
+/// What the list of names that a stream spells prints after an `x`.
 fn list_printed(stream: &TokenStream) -> Result<TokenStream> {
     let list: Punctuated<Ident, Comma> = ParseBuffer::new(stream).parse_terminated()?;
-    print_behind(stream.alloc(), &list)
+    print_after(stream.alloc(), &list)
 }
 
 #[test]

@@ -40,7 +40,7 @@ fn is_group<K: DelimiterKind>(
     }
 }
 
-/// Parentheses are no braces and no brackets, and nothing stands behind them.
+/// Parentheses are no braces and no brackets, and nothing follows them.
 #[test]
 fn no_braces_and_brackets(rt: HostRuntime) {
     let stream = stream(&rt, rt.alloc(), "( a )");
@@ -51,7 +51,7 @@ fn no_braces_and_brackets(rt: HostRuntime) {
     assert!(rt; refused(&input.parenthesized(), 3, "expected parentheses"));
 }
 
-/// Whether a name stands between the parentheses, and its end is refused before it alone.
+/// Whether a name is between the parentheses, and its end is refused before it alone.
 fn is_content_parsed(content: &mut ParseBuffer<'_>) -> bool {
     refused(&content.finish(), 1, "unexpected token")
         && is_name(content.parse(), "a")
@@ -94,7 +94,7 @@ fn whole_streams(rt: HostRuntime) {
     assert!(rt; refused(&whole(rt.alloc(), "pub"), 0, "expected identifier"));
 }
 
-/// Whether the faults stand at 0, and these are their texts, in order.
+/// Whether the faults are at 0, and these are their texts, in order.
 fn tells_all(error: &Error, texts: &str) -> bool {
     let mut texts = texts.split(';');
     for fault in error.faults() {
@@ -105,7 +105,7 @@ fn tells_all(error: &Error, texts: &str) -> bool {
     texts.next().is_none()
 }
 
-/// Whether the first four are told where more is looked for than there is room for, and not the one that is there.
+/// Whether the first four are reported where more is looked for than there is room for, and not the one that is there.
 fn is_much_looked_for(input: &ParseBuffer<'_>, texts: &str) -> bool {
     let mut lookahead = input.lookahead1();
     let seen = lookahead.peek::<Struct>();
@@ -122,7 +122,7 @@ fn looked_for(rt: HostRuntime) {
     assert!(rt; is_much_looked_for(&ParseBuffer::new(&stream), texts));
 }
 
-/// Whether nothing that was looked for is told with this text there, and `type`, looked for, as missing there.
+/// Whether nothing that was looked for is reported with this text there, and `type`, looked for, as missing there.
 fn tells_next(input: &ParseBuffer<'_>, start: usize, text: &str) -> bool {
     let mut lookahead = input.lookahead1();
     tells(&input.lookahead1().error(), start, text)
@@ -130,7 +130,7 @@ fn tells_next(input: &ParseBuffer<'_>, start: usize, text: &str) -> bool {
         && tells(&lookahead.error(), start, "expected `type`")
 }
 
-/// That is so before a token, and at the end behind it.
+/// That is so before a token, and at the end after it.
 #[test]
 fn looked_for_nothing(rt: HostRuntime) {
     let stream = stream(&rt, rt.alloc(), "pub");
@@ -139,7 +139,7 @@ fn looked_for_nothing(rt: HostRuntime) {
     assert!(rt; tells_next(&input, 1, "unexpected end of input"));
 }
 
-/// Whether so many names are a list to the end, and whether a `,` stands behind the last.
+/// Whether so many names are a list to the end, and whether a `,` follows the last.
 fn is_list(stream: &TokenStream, length: usize, is_trailing: bool) -> bool {
     let mut input = ParseBuffer::new(stream);
     let list: Result<Punctuated<Ident, Comma>> = input.parse_terminated();
@@ -198,7 +198,7 @@ fn structure(input: &mut ParseBuffer<'_>) -> Result<Ident> {
     input.parse()
 }
 
-/// The function reads the name, and is refused behind it, and the buffer put back.
+/// The function reads the name, and is refused after it, and the buffer put back.
 #[test]
 fn called(rt: HostRuntime) {
     let stream = stream(&rt, rt.alloc(), "struct a pub b");
@@ -217,7 +217,7 @@ fn called_closures(rt: HostRuntime) {
     assert!(rt; is_name(input.call(|input| input.parse::<Ident>()), "b"));
 }
 
-/// The three words are read, and the `,` behind them isn't.
+/// The three words are read, and the `,` after them isn't.
 #[test]
 fn any_identifiers(rt: HostRuntime) {
     let stream = stream(&rt, rt.alloc(), "struct _ a ,");
@@ -229,14 +229,14 @@ fn any_identifiers(rt: HostRuntime) {
     assert!(rt; input.span() == at(3));
 }
 
-/// Whether what is looked for is told there.
+/// Whether what is looked for is reported there.
 fn is_looked_for(input: &ParseBuffer<'_>, start: usize) -> bool {
     let mut lookahead = input.lookahead1();
     let seen = lookahead.peek::<Ident>();
     !seen && tells(&lookahead.error(), start, "expected identifier")
 }
 
-/// Whether the buffer stands at the end of a group whose closing delimiter is at 2: each refusal tells that place.
+/// Whether the buffer is at the end of a group whose closing delimiter is at 2: each refusal is at that place.
 fn is_at_close(input: &mut ParseBuffer<'_>) -> bool {
     input.span() == at(2)
         && tells(&input.error("no"), 2, "no")
@@ -246,7 +246,7 @@ fn is_at_close(input: &mut ParseBuffer<'_>) -> bool {
         && input.finish().is_ok()
 }
 
-/// A buffer that is read to the end of a group stands there, one that is advanced to it, and a fork of that.
+/// A buffer that is read to the end of a group is there, one that is advanced to it, and a fork of that.
 #[test]
 fn ends_of_groups(rt: HostRuntime) {
     let stream = stream(&rt, rt.alloc(), "( a )");
@@ -259,7 +259,7 @@ fn ends_of_groups(rt: HostRuntime) {
     assert!(rt; is_at_close(&mut content) && is_at_close(&mut content.fork()));
 }
 
-/// A buffer that ended behind the group ends with it where it is advanced to its end.
+/// A buffer that ended after the group ends with it where it is advanced to its end.
 #[test]
 fn ends_of_other_buffers(rt: HostRuntime) {
     let stream = stream(&rt, rt.alloc(), "( a )");

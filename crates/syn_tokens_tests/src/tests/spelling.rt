@@ -40,7 +40,7 @@ fn is_no_other<T: Peek + Parse + Drop>(alloc: Global, text: &str, row: &str) -> 
     Ok(true)
 }
 
-/// Whether the first text of the row is such a token, and none of those that stand behind it, each behind a ` not `, is.
+/// Whether the first text of the row is such a token, and none of those that follow it, each after a ` not `, is.
 fn is_spelled<T: Peek + Parse + ToTokens + Drop>(alloc: Global, row: &str) -> Result<bool> {
     match row.split(" not ").next() {
         Some(text) => Ok(is_read::<T>(alloc, text)? && is_no_other::<T>(alloc, text, row)?),

@@ -60,7 +60,7 @@ fn shorter_ones(rt: HostRuntime) {
     assert_shown(&rt, &sample, "a@0..1");
 }
 
-/// One tree of the sample, and behind it the sample from byte 20 on.
+/// One tree of the sample, and after it the sample from byte 20 on.
 fn longer(alloc: Global) -> Result<TokenStream> {
     let mut stream = tokens(alloc, SAMPLE)?;
     stream.truncate(1);
@@ -135,7 +135,7 @@ fn trees(rt: HostRuntime) {
     }
 }
 
-/// Whether the tree and its copy are equal and stand at the same place.
+/// Whether the tree and its copy are equal and are at the same place.
 fn is_tree_copied(tree: &TokenTree, alloc: Global) -> bool {
     matches!(tree.try_clone(alloc), Ok(copy) if copy == *tree && copy.span() == tree.span())
 }

@@ -1,8 +1,8 @@
 //! What the tests share: streams from texts, texts that show streams, and what a refusal says.
 //!
 //! Each test is proved, and a proof grows with every way out of a function and with what is alive there. So a test takes its
-//! stream from `stream`, which ends it where memory is refused, and asserts what a small function answers by yes or no, or calls
-//! a function that asserts and answers nothing.
+//! stream from `stream`, which ends it where memory is refused, and asserts what a small function returns by yes or no, or calls
+//! a function that asserts and returns nothing.
 use std::alloc::Global;
 use std::process::Abort;
 use syn_outlines::stream_shown;
@@ -166,7 +166,7 @@ pub fn assert_parsed<T: Peek + Parse + ToTokens + Drop>(
     assert!(rt; is_parsed::<T>(input, want), "{want}");
 }
 
-/// Whether the answer is a refusal with just this fault, there.
+/// Whether the result is a refusal with just this fault, there.
 fn is_refused_at<T>(answer: &Result<T>, span: Span, text: &str) -> bool {
     match answer {
         Ok(_) => false,

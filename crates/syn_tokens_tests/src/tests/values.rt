@@ -151,7 +151,7 @@ fn lists_as_values(rt: HostRuntime) {
     }
 }
 
-/// Lists are compared wherever they stand.
+/// Lists are compared spans aside.
 #[test]
 fn equality_of_lists(rt: HostRuntime) {
     for (left, right, are_equal) in [
@@ -171,7 +171,7 @@ fn equality_of_lists(rt: HostRuntime) {
     }
 }
 
-/// Lifetimes are compared wherever they stand.
+/// Lifetimes are compared spans aside.
 #[test]
 fn lifetimes(rt: HostRuntime) {
     let lifetime: Lifetime = value_at(rt.alloc(), "' a", 0).expect(&rt, "a lifetime");
@@ -198,8 +198,8 @@ fn is_refusal(refusal: Refusal, here: Span, text: &str) -> bool {
     }
 }
 
-/// Whether an end that was looked for is told.
-fn is_end_told(input: &ParseBuffer<'_>) -> bool {
+/// Whether an end that was looked for is reported.
+fn is_end_known(input: &ParseBuffer<'_>) -> bool {
     let mut lookahead = input.lookahead1();
     let seen = lookahead.peek::<End>();
     !seen
@@ -224,5 +224,5 @@ fn refusals(rt: HostRuntime) {
             "expected `::`"
         )
     );
-    assert!(rt; is_end_told(&input));
+    assert!(rt; is_end_known(&input));
 }

@@ -41,7 +41,7 @@ fn told(alloc: Global, trees: Iter<'_>) -> Result<String, AllocError> {
 }
 
 /// Whether this text shows the trees.
-fn are_told(alloc: Global, trees: Iter<'_>, want: &str) -> bool {
+fn are_known(alloc: Global, trees: Iter<'_>, want: &str) -> bool {
     matches!(told(alloc, trees), Ok(text) if text.as_str() == want)
 }
 
@@ -60,7 +60,7 @@ fn has_trees(stream: &TokenStream, count: usize, end: usize) -> bool {
 #[test]
 fn in_order(rt: HostRuntime) {
     let sample = stream(&rt, rt.alloc(), SAMPLE);
-    assert!(rt; are_told(rt.alloc(), sample.iter(), SHOWN));
+    assert!(rt; are_known(rt.alloc(), sample.iter(), SHOWN));
     assert!(rt; sample.iter().count() == sample.len() && has_trees(&sample, 4, 8));
     assert!(rt; TokenStream::new(rt.alloc()).iter().count() == 0);
 }
@@ -70,7 +70,7 @@ fn groups(stream: &TokenStream, want: &str) -> Option<usize> {
     let mut count = 0usize;
     for tree in stream {
         if let TokenTreeRef::Group(group) = tree {
-            if !are_told(stream.alloc(), group.content.iter(), want) {
+            if !are_known(stream.alloc(), group.content.iter(), want) {
                 return None;
             }
             count = count.saturating_add(1);
@@ -85,7 +85,7 @@ fn into_groups(rt: HostRuntime) {
     assert!(rt; groups(&sample, "1@2;Bracket@3-4;") == Some(1));
 }
 
-/// Whether there are so many trees left, and none behind them.
+/// Whether there are so many trees left, and none after them.
 fn ends_behind(trees: &mut Iter<'_>, count: usize) -> bool {
     for _ in 0..count {
         if trees.next().is_none() {
@@ -97,9 +97,9 @@ fn ends_behind(trees: &mut Iter<'_>, count: usize) -> bool {
 
 /// A copy of an iterator stays where it was.
 #[test]
-fn nothing_behind_the_end(rt: HostRuntime) {
+fn nothing_after_the_end(rt: HostRuntime) {
     let sample = stream(&rt, rt.alloc(), SAMPLE);
     let mut trees = sample.iter();
     let again = trees.clone().expect(&rt, "a copy");
-    assert!(rt; ends_behind(&mut trees, 4) && are_told(rt.alloc(), again, SHOWN));
+    assert!(rt; ends_behind(&mut trees, 4) && are_known(rt.alloc(), again, SHOWN));
 }

@@ -62,6 +62,6 @@ impl TryClone for Field {
 
 impl TryClone for FieldModifiers {
     fn try_clone(&self, _alloc: Global) -> Result<FieldModifiers> {
-        Ok(FieldModifiers {})
+        Ok(*self)
     }
 }

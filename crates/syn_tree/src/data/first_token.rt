@@ -10,7 +10,7 @@ use syn_tokens::span::Span;
 use syn_tokens::stream::TokenStream;
 use syn_tokens::token::Mark;
 
-/// Where the first token of the type's print stands; 0 to 0 where nothing is printed.
+/// The span of the first token of the type's print; 0 to 0 if nothing is printed.
 pub(crate) fn first_span(ty: &Type) -> Span
     ensures { result ≡ first_place (print (syntax_of_Type ty.now)) }
 {
@@ -28,7 +28,7 @@ pub(crate) fn first_span(ty: &Type) -> Span
     }
 }
 
-/// Where a mark of one character stands.
+/// The span of a mark of one character.
 fn place_of<K>(mark: &Mark<K, 1>) -> Span
     ensures { mark.now.spans ≡ result ∷ [] }
 {
@@ -36,7 +36,7 @@ fn place_of<K>(mark: &Mark<K, 1>) -> Span
     span
 }
 
-/// Of a path as a type: where `<` stands, or else where the path begins.
+/// Of a path as a type: the span of `<`, or else of the path's first token.
 fn first_of_type_path(ty: &TypePath) -> Span
     ensures { result ≡ first_place (print (syntax_of_TypePath ty.now)) }
 {
@@ -46,7 +46,7 @@ fn first_of_type_path(ty: &TypePath) -> Span
     }
 }
 
-/// Of a path: where `::` stands, or else its first word.
+/// Of a path: the span of `::`, or else of its first word.
 #[tactic(auto, using(crate::proofs::Members::words_begin, crate::proofs::Members::no_words_begin))]
 fn first_of_path(path: &Path) -> Span
     ensures { result ≡ first_place (print path.now) }
@@ -60,7 +60,7 @@ fn first_of_path(path: &Path) -> Span
     }
 }
 
-/// Of tokens: where the first one stands.
+/// Of tokens: the span of the first one.
 fn first_of_tokens(tokens: &TokenStream) -> Span
     ensures { result ≡ first_place tokens.now }
 {

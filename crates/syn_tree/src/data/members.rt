@@ -114,7 +114,7 @@ impl<'a> TryClone for MemberRef<'a> {
     }
 }
 
-/// Two are the same where both are one name, or one place, wherever they stand.
+/// Two are the same where both are one name, or one place, spans aside.
 impl<'a> Compared for MemberRef<'a> {
     fn is_same(&self, other: &MemberRef<'a>) -> bool {
         match (self, other) {

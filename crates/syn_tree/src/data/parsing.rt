@@ -34,7 +34,7 @@ use syn_tokens::punctuated::Punctuated;
 use syn_tokens::stream::TokenStream;
 use syn_tokens::token::{Brace, Colon, Comma, Eq, Paren, Struct, Underscore, Union, kind};
 
-/// What reads fields in braces that stand inside of fields in braces: as the type of a field named `_`. It may be called
+/// What reads fields in braces that are inside of fields in braces: as the type of a field named `_`. It may be called
 /// where fewer tokens are left.
 pub(crate) trait Nested {
     ghost may: { Self → Stream → Type 0 };
@@ -44,7 +44,7 @@ pub(crate) trait Nested {
         ensures { Parses IsSyntax itself rules.fields_named input.old result input.new };
 }
 
-/// The parser itself, as what reads the fields inside, and what it is told: how many KiB of stack are left, and what carries a refusal.
+/// The parser itself, which parses nested fields, with the KiB of stack that are left and the carrier of a refusal.
 #[derive(Drop)]
 struct Knot<E, F> {
     fields_named: F,
@@ -132,7 +132,7 @@ fn fields_within<N: Nested>(
     answer
 }
 
-/// Fields with names, separated by commas; the last comma may stand or not.
+/// Named fields, separated by commas; the last comma is optional.
 fn named_fields<N: Nested>(
     nested: &N,
     input: &mut ParseBuffer<'_>,
@@ -217,7 +217,7 @@ fn nameless_fields<N: Nested>(nested: &N, input: &mut ParseBuffer<'_>) -> Parsed
     }
 }
 
-/// What stands before the fields of a field named `_`.
+/// What is before the fields of a field named `_`.
 #[derive(Clone, Copy)]
 enum Keyword {
     Struct(Struct),
@@ -236,7 +236,7 @@ fn struct_or_union(input: &mut ParseBuffer<'_>) -> Parsed<Keyword>
     }
 }
 
-/// `=` and an expression, where `=` stands next.
+/// `=` and an expression, if `=` is next.
 pub(crate) fn value(input: &mut ParseBuffer<'_>) -> Parsed<Option<(Eq, DeferredExpr)>>
     ensures reads { Computes IsSyntax (maybe (pair_of eq_syntax itself)) (parse_form value_form input.old) result input.new }
     ensures kept { Kept input.old result input.new }
@@ -258,7 +258,7 @@ pub(crate) fn skip_visibility(input: &mut ParseBuffer<'_>) -> Parsed<()>
     Ok(())
 }
 
-/// Fields in braces or in parentheses, where either stand next.
+/// Fields in braces or in parentheses, where either are next.
 pub(crate) fn fields(input: &mut ParseBuffer<'_>) -> Parsed<Fields>
     ensures reads { Computes IsSyntax syntax_of_Fields (parse_form fields_form input.old) result input.new }
     ensures kept { Kept input.old result input.new }

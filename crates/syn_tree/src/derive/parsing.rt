@@ -1,4 +1,4 @@
-//! Parsers of what stands behind an item's attributes and visibility, where the item is a struct, an enum or a union.
+//! Parsers of what follows an item's attributes and visibility, where the item is a struct, an enum or a union.
 ghost use Rattle.syn_grammar.specs.Rules as rules;
 ghost use Rattle.syn_grammar.specs.Tokens as grammar;
 ghost use Rattle.syn_grammar.specs.Promises.{itself};

@@ -81,7 +81,7 @@ impl TypeModifiers {
 
 impl ImplModifiers {
     /// `Ok` where there is no modifier, and else the fault `unexpected impl modifier` at each that is there: at `default`,
-    /// at `!` and then at `const`, wherever they stand.
+    /// at `!` and then at `const`, spans aside.
     pub fn require_empty(&self) -> Result<()>
         ensures { Reports (impl_faults self.now) result }
     {

@@ -1,15 +1,16 @@
-//! What tokens begin, as far as it tells whether an invisible group is an operand, a type or looked through. Groups are looked through.
+//! The first tokens of operands, types and statements: they decide whether an invisible group is an operand, a type or opened.
+//! Delimiters of invisible groups are skipped.
 use crate::invisible::opening::Opening;
 use syn_tokens::delimiter::Delimiter;
 use syn_tokens::ident::ident_ref::IdentRef;
 use syn_tokens::stream::entry::Token;
 
-/// What a token may begin.
+/// What a token may start.
 #[derive(Clone, Copy)]
 pub(crate) enum Beginning {
     /// An operand or a type.
     Something,
-    /// Neither of them.
+    /// Neither.
     Nothing,
     /// The word `let`.
     Let,
@@ -17,16 +18,16 @@ pub(crate) enum Beginning {
     Pub,
 }
 
-/// The keywords that are paths, or begin them.
+/// The keywords that are paths, or start them.
 const PATHS: &[&str] = &["self", "Self", "super", "crate"];
-/// The words that stand alone in a restriction.
+/// The words that are a restriction on their own.
 const PLACES: &[&str] = &["crate", "self", "super"];
-/// The other words that begin an operand. `let` counts as such: in a group it is no statement.
+/// The other words that start an operand. `let` is among them: in a group it is not a statement.
 const OPERANDS: &[&str] = &[
     "true", "false", "if", "loop", "while", "for", "unsafe", "return", "break", "continue", "let",
 ];
 
-/// What the token at this place may begin.
+/// What the token at this index may start.
 pub(crate) fn beginning_of(opening: &Opening<'_>, place: usize) -> Beginning {
     if is_word(opening, place, "let") {
         Beginning::Let
@@ -42,7 +43,7 @@ pub(crate) fn beginning_of(opening: &Opening<'_>, place: usize) -> Beginning {
     }
 }
 
-/// Whether the token may begin an operand without attributes and signs.
+/// Whether the token may start an operand, apart from attributes and signs.
 pub(crate) fn begins_operand(opening: &Opening<'_>, place: usize) -> bool {
     match &opening.token(place) {
         Some(Token::Ident(ident)) => is_path_word(ident) || is_among(ident, OPERANDS),
@@ -58,7 +59,7 @@ pub(crate) fn begins_operand(opening: &Opening<'_>, place: usize) -> bool {
     }
 }
 
-/// Whether the token may begin a type.
+/// Whether the token may start a type.
 pub(crate) fn begins_type(opening: &Opening<'_>, place: usize) -> bool {
     match &opening.token(place) {
         Some(Token::Ident(ident)) => is_path_word(ident),
@@ -72,13 +73,13 @@ pub(crate) fn begins_type(opening: &Opening<'_>, place: usize) -> bool {
     }
 }
 
-/// Whether it is what an attribute begins with, or a sign before an operand.
+/// Whether the token starts an attribute, or is a sign before an operand.
 fn is_sign(opening: &Opening<'_>, place: usize) -> bool {
     is_one_of(opening, place, &['#', '-', '&', '*', '!'])
 }
 
-/// Whether tokens begin a statement that is no expression: two words, unless the second is `as`; or a path, `!` and what makes it an item
-/// or a statement.
+/// Whether the tokens start a statement that is not an expression: two words, unless the second is `as`; or a path and `!`,
+/// followed by what makes it an item or a statement.
 pub(crate) fn begins_item_or_macro(opening: &Opening<'_>, place: usize) -> bool {
     let (mut words, mut marks) = (0_usize, 0_usize);
     for at in place..opening.entries().len() {
@@ -108,7 +109,7 @@ pub(crate) fn begins_item_or_macro(opening: &Opening<'_>, place: usize) -> bool 
     false
 }
 
-/// Whether `!` stands at this place, and behind it a name, or a group in braces that nothing goes on.
+/// Whether the token is `!`, followed by a name, or by a group in braces that is the end of its operand.
 fn is_macro_mark(opening: &Opening<'_>, place: usize) -> bool {
     if !is_mark(opening, place, '!') {
         return false;
@@ -127,14 +128,14 @@ fn is_macro_mark(opening: &Opening<'_>, place: usize) -> bool {
     }
 }
 
-/// Whether `.` or `?` goes on an operand there.
+/// Whether `.` or `?` continues an operand here.
 fn goes_on(opening: &Opening<'_>, place: usize) -> bool {
     let behind = opening.seen_from(place.saturating_add(1));
     let is_range = is_joint_mark(opening, place, '.') && is_mark(opening, behind, '.');
     is_mark(opening, place, '?') || is_mark(opening, place, '.') && !is_range
 }
 
-/// Whether parameters begin there, behind `impl <`, and no type.
+/// Whether the generics after `impl <` start here, as parameters and not as a type.
 pub(crate) fn begins_parameters(opening: &Opening<'_>, place: usize) -> bool {
     match &opening.token(place) {
         Some(Token::Ident(ident)) => {
@@ -146,12 +147,13 @@ pub(crate) fn begins_parameters(opening: &Opening<'_>, place: usize) -> bool {
     }
 }
 
-/// Whether there stands what may follow a parameter's name: `:`, `,`, `>` or `=`.
+/// Whether the token may follow the name of a parameter: `:`, `,`, `>` or `=`.
 fn ends_parameter(opening: &Opening<'_>, place: usize) -> bool {
     is_one_of(opening, place, &[':', ',', '>', '=']) && !is_path_mark(opening, place)
 }
 
-/// Whether there stand the parentheses of a restriction: with `crate`, `self` or `super` alone, or what begins with `in`.
+/// Whether these are the parentheses of a restriction: around `crate`, `self` or `super` alone, or around tokens that start
+/// with `in`.
 pub(crate) fn is_restriction(opening: &Opening<'_>, place: usize) -> bool {
     match &opening.token(place) {
         Some(Token::Open(open)) => {
@@ -173,7 +175,7 @@ fn is_one_of_words(opening: &Opening<'_>, place: usize, words: &[&str]) -> bool 
     }
 }
 
-/// Whether a name and `=` stand there.
+/// Whether a name and `=` are here.
 pub(crate) fn begins_binding(opening: &Opening<'_>, place: usize) -> bool {
     match &opening.token(place) {
         Some(Token::Ident(ident)) => {
@@ -184,7 +186,7 @@ pub(crate) fn begins_binding(opening: &Opening<'_>, place: usize) -> bool {
     }
 }
 
-/// Whether this word stands there.
+/// Whether the token is this word.
 pub(crate) fn is_word(opening: &Opening<'_>, place: usize, text: &str) -> bool {
     match &opening.token(place) {
         Some(Token::Ident(ident)) => ident.is(text),
@@ -192,7 +194,7 @@ pub(crate) fn is_word(opening: &Opening<'_>, place: usize, text: &str) -> bool {
     }
 }
 
-/// Whether this character of a mark stands there.
+/// Whether the token is this character of a mark.
 pub(crate) fn is_mark(opening: &Opening<'_>, place: usize, character: char) -> bool {
     opening.character(place) == Some(character)
 }
@@ -201,7 +203,7 @@ fn is_joint_mark(opening: &Opening<'_>, place: usize, character: char) -> bool {
     is_mark(opening, place, character) && opening.is_joint(place)
 }
 
-/// Whether `::` stands there.
+/// Whether `::` is here.
 fn is_path_mark(opening: &Opening<'_>, place: usize) -> bool {
     let behind = opening.seen_from(place.saturating_add(1));
     is_joint_mark(opening, place, ':') && is_mark(opening, behind, ':')
@@ -216,7 +218,7 @@ fn is_one_of(opening: &Opening<'_>, place: usize, characters: &[char]) -> bool {
     false
 }
 
-/// Whether the word may stand in a path.
+/// Whether the word is allowed in a path.
 fn is_path_word(ident: &IdentRef<'_>) -> bool {
     !ident.is_keyword() || is_among(ident, PATHS)
 }

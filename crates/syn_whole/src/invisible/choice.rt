@@ -1,4 +1,4 @@
-//! Which invisible group is opened next.
+//! The choice of the invisible group that is opened next.
 use crate::invisible::beginnings::{
     begins_binding, begins_item_or_macro, begins_operand, begins_type, is_mark, is_word,
 };
@@ -8,19 +8,19 @@ use syn_parse::parse::{Parse, parse_whole};
 use syn_tokens::error::Result;
 use syn_tokens::stream::TokenStream;
 
-/// What is read where a group stands.
+/// How the parser uses a group at its position.
 enum Position {
     Operand,
     Type,
     Other,
 }
 
-/// Where the tokens are refused as a `T`: the place that the refusal names. None where they are read, or where they are nested too deep.
+/// The index of the token at which the parser of a `T` fails. None if it succeeds, or if the nesting is too deep.
 pub(crate) fn refused_at<T: Parse + Drop>(opening: &Opening<'_>) -> Result<Option<usize>> {
     refusal::<T>(numbered(opening, None)?)
 }
 
-/// The same of tokens whose spans are their places.
+/// The same for tokens whose spans are their indices.
 fn refusal<T: Parse + Drop>(numbered: TokenStream) -> Result<Option<usize>> {
     match parse_whole::<T>(&numbered) {
         Ok(_tree) => Ok(None),
@@ -36,8 +36,8 @@ fn refusal<T: Parse + Drop>(numbered: TokenStream) -> Result<Option<usize>> {
     }
 }
 
-/// The group that is looked through where a token is refused: one that begins there; one right before it that was taken for an empty
-/// visibility; one right before it or around it that is no operand and no type; or one right behind it, where a mark goes on.
+/// The group to open if the parser fails at a token: one that starts there; one right before it that was taken for an empty
+/// visibility; one right before it or around it that is not an operand or a type; or one right after it, inside a mark.
 pub(crate) fn looked_through_at<T: Parse + Drop>(
     opening: &Opening<'_>,
     place: usize,
@@ -58,7 +58,7 @@ pub(crate) fn looked_through_at<T: Parse + Drop>(
     Ok(behind_mark(opening, place))
 }
 
-/// The group right behind the mark in which this place lies.
+/// The group right after the characters of the mark at this index.
 fn behind_mark(opening: &Opening<'_>, place: usize) -> Option<usize> {
     let mut last = place;
     for _character in 0..2 {
@@ -74,7 +74,7 @@ fn behind_mark(opening: &Opening<'_>, place: usize) -> Option<usize> {
     None
 }
 
-/// Whether the group is neither an operand nor a type: no such thing is read where it stands, or something is that begins otherwise.
+/// Whether the group is neither an operand nor a type: its position allows none, or its contents start something else.
 fn is_looked_through<T: Parse + Drop>(opening: &Opening<'_>, group: usize) -> Result<bool> {
     let first = opening.seen_from(group.saturating_add(1));
     if is_word(opening, first, "pub") {
@@ -97,7 +97,7 @@ fn is_looked_through<T: Parse + Drop>(opening: &Opening<'_>, group: usize) -> Re
     }
 }
 
-/// Whether the generics of an impl begin there.
+/// Whether the generics of an impl start here.
 fn is_behind_impl(opening: &Opening<'_>, group: usize, first: usize) -> bool {
     match opening.before(group) {
         Some(word) => is_word(opening, word, "impl") && is_mark(opening, first, '<'),
@@ -105,7 +105,7 @@ fn is_behind_impl(opening: &Opening<'_>, group: usize, first: usize) -> bool {
     }
 }
 
-/// What is read where this group stands.
+/// How the parser uses a group at this position.
 fn position_of<T: Parse + Drop>(opening: &Opening<'_>, group: usize) -> Result<Position> {
     if passes::<T>(opening, group, Probe::Number)? {
         Ok(Position::Operand)
@@ -116,12 +116,12 @@ fn position_of<T: Parse + Drop>(opening: &Opening<'_>, group: usize) -> Result<P
     }
 }
 
-/// Whether what stands in place of the group is read, and not kept as tokens.
+/// Whether the tokens in place of the group are parsed, and not stored verbatim.
 pub(crate) fn is_read<T: Parse + Drop>(opening: &Opening<'_>, group: usize) -> Result<bool> {
     Ok(!passes::<T>(opening, group, Probe::Mark)?)
 }
 
-/// Whether a probe in place of the group isn't what is refused.
+/// Whether the parser doesn't fail at a probe in place of the group.
 fn passes<T: Parse + Drop>(opening: &Opening<'_>, group: usize, probe: Probe) -> Result<bool> {
     match refusal::<T>(numbered(opening, Some((group, probe)))?)? {
         Some(place) => Ok(place != group),

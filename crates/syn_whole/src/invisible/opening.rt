@@ -1,4 +1,4 @@
-//! Which invisible groups of a stream are opened, and what is seen of it then.
+//! The set of opened invisible groups of a stream, and the tokens that remain visible.
 ghost use Rattle.std.specs.Prelude.{◌≡◌};
 ghost use Rattle.syn_whole.specs.HiddenGroups.{is_hidden, is_invisible};
 
@@ -12,14 +12,14 @@ use syn_tokens::punct::Spacing;
 use syn_tokens::stream::TokenStream;
 use syn_tokens::stream::entry::{Entry, Token};
 
-/// A stream, and which of its entries are left out: the delimiters of the groups that are opened. A place is the number of an entry.
+/// A stream, and which of its entries are omitted: the delimiters of the opened groups. A place is the index of an entry.
 #[derive(Drop)]
 pub(crate) struct Opening<'t> {
     tokens: &'t TokenStream,
     opened: Vec<bool>,
 }
 
-/// Whether it is the opening delimiter of an invisible group.
+/// Whether the entry is the opening delimiter of an invisible group.
 pub(crate) fn is_invisible(entry: &Entry) -> bool
     ensures { result ≡ is_invisible entry.now }
 {
@@ -45,7 +45,7 @@ fn is_hidden(delimiter: Delimiter) -> bool
 }
 
 impl<'t> Opening<'t> {
-    /// No group is opened yet.
+    /// Starts with no group opened.
     pub(crate) fn new(tokens: &'t TokenStream) -> Result<Opening<'t>> {
         let mut opened = Vec::with_capacity(tokens.alloc(), tokens.entries().len())?;
         for _entry in tokens.entries() {
@@ -62,18 +62,18 @@ impl<'t> Opening<'t> {
         self.tokens.entries()
     }
 
-    /// How many entries there are.
+    /// The number of entries.
     pub(crate) fn len(&self) -> usize {
         self.opened.len()
     }
 
-    /// What stands at this place, whether it is left out or not.
+    /// The token or delimiter at this place, omitted or not.
     pub(crate) fn token(&self, place: usize) -> Option<Token<'_>> {
         let entry = self.entries().get(place)?;
         Some(entry.token())
     }
 
-    /// The character of a mark that stands at this place.
+    /// The character of a mark at this place.
     pub(crate) fn character(&self, place: usize) -> Option<char> {
         match &self.token(place)? {
             Token::Punct(punct) => Some(punct.character()),
@@ -81,7 +81,7 @@ impl<'t> Opening<'t> {
         }
     }
 
-    /// Whether a Joint character of a mark stands at this place.
+    /// Whether a joint character of a mark is at this place.
     pub(crate) fn is_joint(&self, place: usize) -> bool {
         match &self.token(place) {
             Some(Token::Punct(punct)) => matches!(punct.spacing, Spacing::Joint),
@@ -89,7 +89,8 @@ impl<'t> Opening<'t> {
         }
     }
 
-    /// Opens the group that begins at this place, and those that begin before its first token, or where it is empty the token behind it.
+    /// Opens the group that starts at this place, and those that start before its first token, or before the token after it if
+    /// it is empty.
     pub(crate) fn open_run(&mut self, group: usize) {
         for at in group..self.seen_from(group) {
             if self.begins_group(at) {
@@ -98,7 +99,7 @@ impl<'t> Opening<'t> {
         }
     }
 
-    /// Opens the group that begins at this place.
+    /// Opens the group that starts at this place.
     fn open(&mut self, group: usize) {
         if let Some(end) = self.end_of(group) {
             self.leave_out(group);
@@ -112,7 +113,7 @@ impl<'t> Opening<'t> {
         }
     }
 
-    /// Where the group ends that begins at this place.
+    /// The end of the group that starts at this place.
     pub(crate) fn end_of(&self, group: usize) -> Option<usize> {
         match self.token(group)? {
             Token::Open(open) => group.checked_add(open.skip)?.checked_add(1),
@@ -123,10 +124,10 @@ impl<'t> Opening<'t> {
         }
     }
 
-    /// Opens groups that are surely looked through: of those between the delimiters around this place, and not in other delimiters there,
-    /// the ones whose first token begins neither an operand nor a type, or a parameter of an impl, or a restriction. `let` is left, for a
-    /// `let` in a group is no statement; and so is `pub` behind an empty group, which stands in place of the visibility. Answers whether
-    /// there was one.
+    /// Opens the groups that certainly have to be opened, among those directly between the delimiters around this place: the
+    /// groups whose first token starts neither an operand nor a type, and those that start a parameter of an impl or a
+    /// restriction. Two kinds are left alone: groups that start with `let`, since a `let` in a group is not a statement; and
+    /// empty groups before `pub`, since they are in place of the visibility. Returns whether there was such a group.
     pub(crate) fn open_level(&mut self, place: usize) -> bool {
         let (start, end) = self.level_around(place);
         let (mut next, mut behind) = (Beginning::Nothing, end);
@@ -153,7 +154,7 @@ impl<'t> Opening<'t> {
         found
     }
 
-    /// Where the content begins and ends of the innermost visible group around this place, or of the whole.
+    /// The range of the content of the innermost visible group around this place, or of the whole stream.
     fn level_around(&self, place: usize) -> (usize, usize) {
         let mut inner = 0_usize;
         for before in (0..place).rev() {
@@ -175,8 +176,8 @@ impl<'t> Opening<'t> {
         (0, self.opened.len())
     }
 
-    /// Whether the group at this place is looked through, of whose content, or where it is empty of what stands behind it, this is the
-    /// beginning, which stands at that place.
+    /// Whether the group certainly has to be opened. `next` is what the token at `place` starts: the first one in the group, or
+    /// after it if it is empty.
     fn opens_by(&self, group: usize, next: Beginning, place: usize) -> bool {
         match next {
             Beginning::Nothing => true,
@@ -189,7 +190,7 @@ impl<'t> Opening<'t> {
         }
     }
 
-    /// Whether a word stands before this place that a restriction may follow.
+    /// Whether the word before this place may be followed by a restriction.
     fn is_behind_restricted(&self, place: usize) -> bool {
         match self.before(place) {
             Some(word) => is_word(self, word, "pub") || is_word(self, word, "impl"),
@@ -197,7 +198,7 @@ impl<'t> Opening<'t> {
         }
     }
 
-    /// Opens the groups in the parentheses that begin at this place, where they are a restriction. Answers whether there was one.
+    /// Opens the groups in the parentheses at this place, if they are a restriction. Returns whether there was such a group.
     fn open_restriction(&mut self, place: usize) -> bool {
         if !self.is_behind_restricted(place) || !is_restriction(self, place) {
             return false;
@@ -212,8 +213,8 @@ impl<'t> Opening<'t> {
         found
     }
 
-    /// Whether a group begins at this place that stands where the trait of an impl does: behind `impl`, generics, `const` or `!`, and before
-    /// `for`.
+    /// Whether a group starts at this place that is in the position of an impl's trait: after `impl`, generics, `const` or `!`,
+    /// and before `for`.
     pub(crate) fn is_trait(&self, group: usize) -> bool {
         self.begins_group(group) && self.is_before_trait(group) && self.is_before_for(group)
     }
@@ -230,7 +231,7 @@ impl<'t> Opening<'t> {
         }
     }
 
-    /// Whether `for` stands behind the group at this place, and not `for <`.
+    /// Whether `for` follows after the group at this place, and not `for <`.
     fn is_before_for(&self, group: usize) -> bool {
         let Some(end) = self.end_of(group) else {
             return false;
@@ -240,7 +241,7 @@ impl<'t> Opening<'t> {
         is_word(self, behind, "for") && !is_mark(self, lifetimes, '<')
     }
 
-    /// Whether `impl <` stands before this place.
+    /// Whether `impl <` is right before this place.
     fn is_behind_impl_less(&self, place: usize) -> bool {
         let Some(less) = self.before(place) else {
             return false;
@@ -251,7 +252,7 @@ impl<'t> Opening<'t> {
         }
     }
 
-    /// Whether it is left out.
+    /// Whether the entry is omitted.
     pub(crate) fn is_opened(&self, place: usize) -> bool {
         match self.opened.get(place) {
             Some(mark) => *mark,
@@ -259,7 +260,7 @@ impl<'t> Opening<'t> {
         }
     }
 
-    /// Whether an invisible group that isn't opened begins at this place.
+    /// Whether an invisible group that isn't opened starts at this place.
     pub(crate) fn begins_group(&self, place: usize) -> bool {
         match self.entries().get(place) {
             Some(entry) => is_invisible(entry) && !self.is_opened(place),
@@ -275,7 +276,7 @@ impl<'t> Opening<'t> {
         }
     }
 
-    /// Whether a delimiter of an invisible group stands there, opened or not.
+    /// Whether a delimiter of an invisible group is here, opened or not.
     pub(crate) fn is_delimiter_of_invisible(&self, place: usize) -> bool {
         match self.token(place) {
             Some(Token::Open(open)) => is_hidden(open.delimiter),
@@ -284,7 +285,7 @@ impl<'t> Opening<'t> {
         }
     }
 
-    /// The first place from this one on where something else stands than a delimiter of an invisible group.
+    /// The first place from here on that is not a delimiter of an invisible group.
     pub(crate) fn seen_from(&self, place: usize) -> usize {
         for seen in place..self.opened.len() {
             if !self.is_delimiter_of_invisible(seen) {
@@ -294,7 +295,7 @@ impl<'t> Opening<'t> {
         self.opened.len()
     }
 
-    /// The last place before this one that isn't left out.
+    /// The last place before this one that isn't omitted.
     pub(crate) fn before(&self, place: usize) -> Option<usize> {
         for before in (0..place).rev() {
             if !self.is_opened(before) {
@@ -304,7 +305,7 @@ impl<'t> Opening<'t> {
         None
     }
 
-    /// The first place behind this one that isn't left out.
+    /// The first place after this one that isn't omitted.
     pub(crate) fn behind(&self, place: usize) -> Option<usize> {
         for behind in place.saturating_add(1)..self.opened.len() {
             if !self.is_opened(behind) {
@@ -324,7 +325,7 @@ impl<'t> Opening<'t> {
         }
     }
 
-    /// The innermost invisible group in which this place lies, or at whose end, unless a visible group lies between.
+    /// The innermost invisible group around this place, or that ends here, unless a visible group is in between.
     pub(crate) fn group_around(&self, place: usize) -> Option<usize> {
         let mut inner = 0_usize;
         for before in (0..place).rev() {

@@ -1,4 +1,4 @@
-//! Streams built anew, without the delimiters of the groups that are opened.
+//! Rebuilding streams without the delimiters of opened groups.
 use crate::invisible::opening::Opening;
 use std::alloc::Global;
 use syn_tokens::delimiter::Delimiter;
@@ -11,22 +11,22 @@ use syn_tokens::stream::TokenStream;
 use syn_tokens::stream::builder::StreamBuilder;
 use syn_tokens::stream::entry::{Entry, Token};
 
-/// What stands in place of a group, to see what is read there.
+/// The tokens that replace a group, to test how the parser uses its position.
 #[derive(Clone, Copy)]
 pub(crate) enum Probe {
     /// A number in an invisible group.
     Number,
     /// A name in an invisible group.
     Name,
-    /// A word that begins an item.
+    /// A word that starts an item.
     Item,
     /// A lifetime.
     Lifetime,
-    /// A mark that nothing begins with.
+    /// A mark that starts nothing.
     Mark,
 }
 
-/// The stream with its groups opened.
+/// The stream without the delimiters of opened groups.
 pub(crate) fn opened(opening: &Opening<'_>) -> Result<TokenStream> {
     let mut out = StreamBuilder::new(opening.alloc());
     for place in 0..opening.entries().len() {
@@ -35,7 +35,7 @@ pub(crate) fn opened(opening: &Opening<'_>) -> Result<TokenStream> {
     out.finish()
 }
 
-/// The same with each token's place as its span, and with a probe in place of a group.
+/// The same, with the index of each token as its span, and with a probe in place of a group.
 pub(crate) fn numbered(
     opening: &Opening<'_>,
     probe: Option<(usize, Probe)>,
@@ -58,7 +58,7 @@ pub(crate) fn numbered(
     out.finish()
 }
 
-/// The place as a span.
+/// The index as a span.
 fn number(place: usize) -> Span {
     Span {
         start: place,
@@ -88,7 +88,7 @@ fn add_probe(alloc: Global, probe: Probe, span: Span, out: &mut StreamBuilder) -
     }
 }
 
-/// Adds what stands at this place, unless it is left out.
+/// Adds the token or delimiter at this index, unless it is omitted.
 fn add(
     opening: &Opening<'_>,
     place: usize,
@@ -109,7 +109,7 @@ fn add(
     }
 }
 
-/// Adds a token or a delimiter, at this place in place of its own.
+/// Adds a token or a delimiter, with the given span, if there is one, instead of its own.
 fn add_token(
     alloc: Global,
     token: &Token<'_>,

@@ -30,7 +30,7 @@ impl CopyNested<Expr> for ExprBinary {
         Ok(ExprBinary {
             attrs: copied(&self.attrs, alloc)?,
             left: copy_operand(nested, &self.left, alloc)?,
-            op: copied(&self.op, alloc)?,
+            op: self.op,
             right: copy_operand(nested, &self.right, alloc)?,
         })
     }
@@ -74,7 +74,7 @@ impl CopyNested<Expr> for ExprUnary {
     ) -> Result<ExprUnary, AllocError> {
         Ok(ExprUnary {
             attrs: copied(&self.attrs, alloc)?,
-            op: copied(&self.op, alloc)?,
+            op: self.op,
             expr: copy_operand(nested, &self.expr, alloc)?,
         })
     }

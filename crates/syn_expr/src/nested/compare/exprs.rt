@@ -46,7 +46,7 @@ pub fn same_maybe<N: CompareOf<Expr>>(
     }
 }
 
-/// Whether both have `else` and the same expression behind it, or neither has. How this is printed, by itself or in braces, adds nothing
+/// Whether both have `else` and the same expression after it, or neither has. How this is printed, by itself or in braces, adds nothing
 /// to that.
 pub fn same_else<N: CompareOf<Expr>>(
     nested: &N,

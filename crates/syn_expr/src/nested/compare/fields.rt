@@ -28,7 +28,7 @@ pub fn same_fields<N: CompareOf<Expr>>(
     same_list(&OfFields { nested }, list, other)
 }
 
-/// Whether two values of fields are the same. A path leads back to no expression; behind a name alone it isn't shown.
+/// Whether two values of fields are the same. A path leads back to no expression; after a name alone it isn't shown.
 #[tactic(auto, using(crate::proofs::Fields::no_path_size, crate::proofs::Fields::unlike_path))]
 pub fn same_value<N: CompareOf<Expr>>(nested: &N, expr: &Expr, other: &Expr) -> bool
     requires { (n : ℕ) → n ≤ size_unless_path (syntax_of_Expr expr.now) → N.may nested.now n }

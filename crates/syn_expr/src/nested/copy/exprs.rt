@@ -5,7 +5,7 @@ ghost use Rattle.syn_tokens.specs.Leaves.{maybe};
 ghost use Rattle.syn_tokens.specs.Listing.{list_of};
 ghost use Rattle.syn_lower.specs.Sizes.{tree_size, values_size};
 ghost use Rattle.syn_grammar.specs.Grammar.{Both};
-ghost use Rattle.syn_expr.specs.Expressions.{behind_else, block_behind_else, syntax_of_Expr, whole};
+ghost use Rattle.syn_expr.specs.Expressions.{after_else, block_after_else, syntax_of_Expr, whole};
 ghost use Rattle.syn_expr.specs.Statements.{statements_syntax};
 
 use crate::nested::copy::{CopyNested, CopyOf, Knot, copied, copy_boxed, copy_each, copy_list};
@@ -54,15 +54,15 @@ pub fn copy_maybe<N: CopyOf<Expr>>(
     }
 }
 
-/// A copy of what stands behind `else`, if anything does, with that word.
+/// A copy of what follows `else`, if anything does, with that word.
 pub fn copy_else<N: CopyOf<Expr>>(
     nested: &N,
     branch: &Option<(Else, Box<Expr>)>,
     alloc: Global,
 ) -> Result<Option<(Else, Box<Expr>)>, AllocError>
     requires { (n : ℕ) → n ≤ tree_size (maybe (λ p. syntax_of_Expr p.1.value) branch.now) → N.may nested.now n }
-    ensures branch { IfOk result (λ copy. maybe (λ p. Both (else_syntax p.0) (behind_else (syntax_of_Expr p.1.value))) copy ≡ maybe (λ p. Both (else_syntax p.0) (behind_else (syntax_of_Expr p.1.value))) branch.now) }
-    ensures diverging { IfOk result (λ copy. maybe (λ p. Both (else_syntax p.0) (block_behind_else (syntax_of_Expr p.1.value))) copy ≡ maybe (λ p. Both (else_syntax p.0) (block_behind_else (syntax_of_Expr p.1.value))) branch.now) }
+    ensures branch { IfOk result (λ copy. maybe (λ p. Both (else_syntax p.0) (after_else (syntax_of_Expr p.1.value))) copy ≡ maybe (λ p. Both (else_syntax p.0) (after_else (syntax_of_Expr p.1.value))) branch.now) }
+    ensures diverging { IfOk result (λ copy. maybe (λ p. Both (else_syntax p.0) (block_after_else (syntax_of_Expr p.1.value))) copy ≡ maybe (λ p. Both (else_syntax p.0) (block_after_else (syntax_of_Expr p.1.value))) branch.now) }
 {
     match branch {
         Some((else_token, expr)) => {

@@ -27,7 +27,7 @@ pub fn copy_fields<N: CopyOf<Expr>>(
     copy_list(&OfFields { nested }, list, alloc)
 }
 
-/// A copy of the value of a field. A path leads back to no expression; behind a name alone it isn't shown.
+/// A copy of the value of a field. A path leads back to no expression; after a name alone it isn't shown.
 #[tactic(auto, using(crate::proofs::Fields::no_path_size))]
 pub fn copy_value<N: CopyOf<Expr>>(
     nested: &N,

@@ -5,16 +5,16 @@ use syn_tokens::punct::{Punct, Spacing};
 use syn_tokens::span::Span;
 use syn_tokens::stream::cursor::{Cursor, GroupRef, TokenTreeRef};
 
-/// What stands before a token tree in its group.
+/// What precedes a token tree in its group.
 #[derive(Clone, Copy)]
 enum Before {
     /// Nothing, the end of an element or a statement, or a word that an operand follows.
     Start,
     /// What may be an operand or not: a word that is no name, such as `self` or `return`, a label, or brackets that may be an attribute's.
     Word,
-    /// A name that doesn't stand behind `.`.
+    /// A name that doesn't follow `.`.
     Name,
-    /// A name and `!`: the group behind them is a macro's.
+    /// A name and `!`: the group after them is a macro's.
     Bang,
     /// The name of a field or of a method.
     Member,
@@ -33,10 +33,10 @@ pub(super) struct Level<'a> {
     pub(super) opening: Span,
     delimiter: Delimiter,
     before: Before,
-    /// The links since the last end, and how many stand above each other in the groups since.
+    /// The links since the last end, and how many are nested in the groups since.
     links: u32,
     inside: u32,
-    /// How many stand above each other at most in what has ended.
+    /// How many are nested at most in what has ended.
     ended: u32,
     /// Whether a type may have begun, where `<` opens its arguments without `::`.
     in_type: bool,
@@ -68,7 +68,7 @@ impl<'a> Level<'a> {
         }
     }
 
-    /// How many links stand above each other in what hasn't ended.
+    /// How many links are nested in what hasn't ended.
     pub(super) fn unended(&self) -> u32 {
         self.links.saturating_add(self.inside)
     }
@@ -84,7 +84,7 @@ impl<'a> Level<'a> {
         None
     }
 
-    /// Goes on behind a group.
+    /// Continues after a group.
     pub(super) fn close(&mut self, inner: &Level<'_>) {
         let most = inner.ended.max(inner.unended());
         if inner.delimiter == Delimiter::None {
@@ -108,7 +108,7 @@ impl<'a> Level<'a> {
         self.links = self.links.saturating_add(1);
     }
 
-    /// Behind braces only `as` and `else` go on.
+    /// After braces only `as` and `else` continue.
     fn see_ident(&mut self, ident: &IdentRef<'_>) {
         let text = ident.text();
         match self.before {
@@ -144,7 +144,7 @@ impl<'a> Level<'a> {
         };
     }
 
-    /// Counts a character of a mark, behind another of it.
+    /// Counts a character of a mark, after another of it.
     fn count_mark(&mut self, first: char, character: char) {
         match (first, character) {
             (_, ';') => self.end(),
@@ -168,7 +168,7 @@ impl<'a> Level<'a> {
         }
     }
 
-    /// Opens generic arguments, unless it is known that this is an operator: an operand has ended, and no type or `::` stands before it;
+    /// Opens generic arguments, unless it is known that this is an operator: an operand has ended, and no type or `::` is before it;
     /// or it is the second character of such an operator.
     fn open_angle(&mut self, first: char) {
         let is_operator = first == '<' || self.has_operand();
@@ -177,7 +177,7 @@ impl<'a> Level<'a> {
         }
     }
 
-    /// Counts an operator, unless it is known that no operand stands before it.
+    /// Counts an operator, unless it is known that no operand is before it.
     fn count_operator(&mut self) {
         match self.before {
             Before::Start => {}
@@ -191,7 +191,7 @@ impl<'a> Level<'a> {
         matches!(self.before, Before::Name | Before::Member | Before::Operand)
     }
 
-    /// Parentheses and brackets behind what may be an operand go on it; those of a method were counted with its `.`.
+    /// Parentheses and brackets after what may be an operand continue it; those of a method were counted with its `.`.
     fn see_group(&mut self, group: GroupRef<'a>) -> Option<Level<'a>> {
         let before = self.before;
         self.before = match (before, group.delimiter) {

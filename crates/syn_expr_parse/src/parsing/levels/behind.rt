@@ -1,4 +1,4 @@
-//! What stands behind an expression and isn't a chain of operators: casts, what it is compared with, what is assigned to it.
+//! What follows an expression and isn't a chain of operators: casts, what it is compared with, what is assigned to it.
 ghost use Rattle.std.specs.Prelude.{◌≡◌};
 ghost use Rattle.syn_grammar.specs.Rules as rules;
 ghost use Rattle.syn_grammar.specs.Shape.{Cast};
@@ -9,7 +9,7 @@ ghost use Rattle.syn_grammar.specs.Values.{core, new, onto};
 ghost use Rattle.syn_tokens.specs.Kinds.{as_syntax};
 ghost use Rattle.syn_lower.specs.Types.{syntax_of_Type};
 ghost use Rattle.syn_lower.specs.Parsing.{parse_rule, Computes, Kept, MayBelow, Parses, IsSyntax};
-ghost use Rattle.syn_expr_parse.specs.Levels.{assignment_operators, first_operator, going_once};
+ghost use Rattle.syn_expr_parse.specs.Levels.{assignment_operators, first_operator, continuing_once};
 ghost use Rattle.syn_expr_parse.specs.Spots.{within};
 
 use super::looks::at_equals_operator;
@@ -39,7 +39,7 @@ pub(super) fn cast<N: Nested>(
     casts::<N>(first, input)
 }
 
-/// `as` and a type behind an expression, any number of times.
+/// `as` and a type after an expression, any number of times.
 #[tactic(auto, using(crate::proofs::Levels::casts_step))]
 pub(super) fn casts<N: Nested>(
     left: Box<Expr<N>>,
@@ -120,7 +120,7 @@ fn assigned_by_operator<N: Nested>(
     input: &mut ParseBuffer<'_>,
 ) -> Parsed<Box<Expr<N>>>
     requires { MayBelow N.may nested.now input.old }
-    ensures reads { Computes IsSyntax (λ e. N.Trees.expr_syntax e.value) (going_once (core (N.Trees.expr_syntax left.value)) input.old (first_operator assignment_operators input.old) (parse_rule (within spot rules.whole_expression))) result input.new }
+    ensures reads { Computes IsSyntax (λ e. N.Trees.expr_syntax e.value) (continuing_once (core (N.Trees.expr_syntax left.value)) input.old (first_operator assignment_operators input.old) (parse_rule (within spot rules.whole_expression))) result input.new }
     ensures kept { Kept input.old result input.new }
 {
     match assignment_operator(input)? {

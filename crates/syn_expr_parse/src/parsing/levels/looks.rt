@@ -9,7 +9,7 @@ use syn_tokens::token::{
     OrOr, Percent, PercentEq, Plus, PlusEq, Shl, ShlEq, Shr, ShrEq, Slash, SlashEq, Star, StarEq,
 };
 
-/// Whether `*` stands next, and not `*=`.
+/// Whether `*` is next, and not `*=`.
 #[tactic(auto, using(syn_grammar::proofs::Looks::sees_but))]
 pub(super) fn at_star_operator(input: &ParseBuffer<'_>) -> bool
     ensures { result ≡ sees table.at_star_operator input.now }
@@ -17,7 +17,7 @@ pub(super) fn at_star_operator(input: &ParseBuffer<'_>) -> bool
     input.peek::<Star>() && !input.peek::<StarEq>()
 }
 
-/// Whether `/` stands next, and not `/=`.
+/// Whether `/` is next, and not `/=`.
 #[tactic(auto, using(syn_grammar::proofs::Looks::sees_but))]
 pub(super) fn at_slash_operator(input: &ParseBuffer<'_>) -> bool
     ensures { result ≡ sees table.at_slash_operator input.now }
@@ -25,7 +25,7 @@ pub(super) fn at_slash_operator(input: &ParseBuffer<'_>) -> bool
     input.peek::<Slash>() && !input.peek::<SlashEq>()
 }
 
-/// Whether `%` stands next, and not `%=`.
+/// Whether `%` is next, and not `%=`.
 #[tactic(auto, using(syn_grammar::proofs::Looks::sees_but))]
 pub(super) fn at_percent_operator(input: &ParseBuffer<'_>) -> bool
     ensures { result ≡ sees table.at_percent_operator input.now }
@@ -33,7 +33,7 @@ pub(super) fn at_percent_operator(input: &ParseBuffer<'_>) -> bool
     input.peek::<Percent>() && !input.peek::<PercentEq>()
 }
 
-/// Whether `+` stands next, and not `+=`.
+/// Whether `+` is next, and not `+=`.
 #[tactic(auto, using(syn_grammar::proofs::Looks::sees_but))]
 pub(super) fn at_plus_operator(input: &ParseBuffer<'_>) -> bool
     ensures { result ≡ sees table.at_plus_operator input.now }
@@ -41,7 +41,7 @@ pub(super) fn at_plus_operator(input: &ParseBuffer<'_>) -> bool
     input.peek::<Plus>() && !input.peek::<PlusEq>()
 }
 
-/// Whether `-` stands next, and not `-=`.
+/// Whether `-` is next, and not `-=`.
 #[tactic(auto, using(syn_grammar::proofs::Looks::sees_but))]
 pub(super) fn at_minus_operator(input: &ParseBuffer<'_>) -> bool
     ensures { result ≡ sees table.at_minus_operator input.now }
@@ -49,7 +49,7 @@ pub(super) fn at_minus_operator(input: &ParseBuffer<'_>) -> bool
     input.peek::<Minus>() && !input.peek::<MinusEq>()
 }
 
-/// Whether `<<` stands next, and not `<<=`.
+/// Whether `<<` is next, and not `<<=`.
 #[tactic(auto, using(syn_grammar::proofs::Looks::sees_but))]
 pub(super) fn at_less_less_operator(input: &ParseBuffer<'_>) -> bool
     ensures { result ≡ sees table.at_less_less_operator input.now }
@@ -57,7 +57,7 @@ pub(super) fn at_less_less_operator(input: &ParseBuffer<'_>) -> bool
     input.peek::<Shl>() && !input.peek::<ShlEq>()
 }
 
-/// Whether `>>` stands next, and not `>>=`.
+/// Whether `>>` is next, and not `>>=`.
 #[tactic(auto, using(syn_grammar::proofs::Looks::sees_but))]
 pub(super) fn at_greater_greater_operator(input: &ParseBuffer<'_>) -> bool
     ensures { result ≡ sees table.at_greater_greater_operator input.now }
@@ -65,7 +65,7 @@ pub(super) fn at_greater_greater_operator(input: &ParseBuffer<'_>) -> bool
     input.peek::<Shr>() && !input.peek::<ShrEq>()
 }
 
-/// Whether `&` stands next, and not `&&` or `&=`.
+/// Whether `&` is next, and not `&&` or `&=`.
 #[tactic(auto, using(syn_grammar::proofs::Looks::sees_but, syn_grammar::proofs::Looks::sees_or))]
 pub(super) fn at_ampersand_operator(input: &ParseBuffer<'_>) -> bool
     ensures { result ≡ sees table.at_ampersand_operator input.now }
@@ -73,7 +73,7 @@ pub(super) fn at_ampersand_operator(input: &ParseBuffer<'_>) -> bool
     input.peek::<And>() && !(input.peek::<AndAnd>() || input.peek::<AndEq>())
 }
 
-/// Whether `^` stands next, and not `^=`.
+/// Whether `^` is next, and not `^=`.
 #[tactic(auto, using(syn_grammar::proofs::Looks::sees_but))]
 pub(super) fn at_caret_operator(input: &ParseBuffer<'_>) -> bool
     ensures { result ≡ sees table.at_caret_operator input.now }
@@ -81,7 +81,7 @@ pub(super) fn at_caret_operator(input: &ParseBuffer<'_>) -> bool
     input.peek::<Caret>() && !input.peek::<CaretEq>()
 }
 
-/// Whether `|` stands next, and not `||` or `|=`.
+/// Whether `|` is next, and not `||` or `|=`.
 #[tactic(auto, using(syn_grammar::proofs::Looks::sees_but, syn_grammar::proofs::Looks::sees_or))]
 pub(super) fn at_bar_operator(input: &ParseBuffer<'_>) -> bool
     ensures { result ≡ sees table.at_bar_operator input.now }
@@ -89,7 +89,7 @@ pub(super) fn at_bar_operator(input: &ParseBuffer<'_>) -> bool
     input.peek::<Or>() && !(input.peek::<OrOr>() || input.peek::<OrEq>())
 }
 
-/// Whether `<` stands next, and not `<=` or `<<`.
+/// Whether `<` is next, and not `<=` or `<<`.
 #[tactic(auto, using(syn_grammar::proofs::Looks::sees_but, syn_grammar::proofs::Looks::sees_or))]
 pub(super) fn at_less_operator(input: &ParseBuffer<'_>) -> bool
     ensures { result ≡ sees table.at_less_operator input.now }
@@ -97,7 +97,7 @@ pub(super) fn at_less_operator(input: &ParseBuffer<'_>) -> bool
     input.peek::<Lt>() && !(input.peek::<Le>() || input.peek::<Shl>())
 }
 
-/// Whether `>` stands next, and not `>=` or `>>`.
+/// Whether `>` is next, and not `>=` or `>>`.
 #[tactic(auto, using(syn_grammar::proofs::Looks::sees_but, syn_grammar::proofs::Looks::sees_or))]
 pub(super) fn at_greater_operator(input: &ParseBuffer<'_>) -> bool
     ensures { result ≡ sees table.at_greater_operator input.now }
@@ -105,7 +105,7 @@ pub(super) fn at_greater_operator(input: &ParseBuffer<'_>) -> bool
     input.peek::<Gt>() && !(input.peek::<Ge>() || input.peek::<Shr>())
 }
 
-/// Whether `=` stands next, and not `==`.
+/// Whether `=` is next, and not `==`.
 #[tactic(auto, using(syn_grammar::proofs::Looks::sees_but))]
 pub(super) fn at_equals_operator(input: &ParseBuffer<'_>) -> bool
     ensures { result ≡ sees table.at_equals_operator input.now }

@@ -1,4 +1,4 @@
-//! Operators, as the levels read them: each function answers None where none of its own stands next.
+//! Operators, as the levels read them: each function returns None where none of its own is next.
 ghost use Rattle.syn_lower.specs.Parsing.{IsSyntax};
 ghost use Rattle.syn_expr_parse.specs.Levels.{arithmetic_assignments, assignment_operators, bit_assignments, bit_and_operators, bit_or_operators, bit_xor_operators, comparison_operators, conjunction_operators, disjunction_operators, product_operators, shift_operators, sum_operators, ReadsOperator};
 ghost use Rattle.syn_expr_parse.specs.Operators.{syntax_of_BinOp};

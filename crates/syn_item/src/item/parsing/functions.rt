@@ -20,8 +20,8 @@ ghost use Rattle.syn_item.specs.ItemStages.{const_stage, extern_stage, function_
 ghost use Rattle.syn_item.specs.ItemTurns.{const_or_kept_turn, module_next, no_visibility};
 ghost use Rattle.syn_item.specs.Planned.{Follows};
 
-use super::impls::impl_behind;
-use super::traits::{const_trait, trait_behind};
+use super::impls::impl_after;
+use super::traits::{const_trait, trait_after};
 use super::{Begun, Place};
 use crate::foreign::foreign_module_rest;
 use crate::function::function;
@@ -37,7 +37,7 @@ use syn_tokens::token::{
 };
 use syn_tree::item::ConstModifiers;
 
-/// A function; `None` where it is kept as its tokens: without a body.
+/// A function; `None` where it is kept verbatim: without a body.
 #[tactic(auto, using(crate::proofs::ItemPlans::signature_refused))]
 pub(super) fn function_or_kept(begun: Begun, input: &mut ParseBuffer<'_>) -> Parsed<Option<Item>>
     requires outer { all_attributes_syntax begun.attrs.items ≡ attributes_syntax begun.attrs.items }
@@ -52,7 +52,7 @@ pub(super) fn function_or_kept(begun: Begun, input: &mut ParseBuffer<'_>) -> Par
 }
 
 /// What begins with `extern`: an extern crate; without a visibility a foreign module; or a function.
-pub(super) fn behind_extern(begun: Begun, input: &mut ParseBuffer<'_>) -> Parsed<Option<Item>>
+pub(super) fn after_extern(begun: Begun, input: &mut ParseBuffer<'_>) -> Parsed<Option<Item>>
     requires outer { all_attributes_syntax begun.attrs.items ≡ attributes_syntax begun.attrs.items }
     requires next { sees at_extern input.old ≡ true }
     ensures follows { (ts : Stream) → Follows IsSyntax syntax_of_Item rules.kept_item ts (run_plan (extern_stage begun) rules.kept_item ts input.old) result input.new }
@@ -65,7 +65,7 @@ pub(super) fn behind_extern(begun: Begun, input: &mut ParseBuffer<'_>) -> Parsed
 }
 
 /// What begins with `unsafe`: a module, a trait, without a visibility an impl or a foreign module, or a function.
-pub(super) fn behind_unsafe(begun: Begun, input: &mut ParseBuffer<'_>) -> Parsed<Option<Item>>
+pub(super) fn after_unsafe(begun: Begun, input: &mut ParseBuffer<'_>) -> Parsed<Option<Item>>
     requires outer { all_attributes_syntax begun.attrs.items ≡ attributes_syntax begun.attrs.items }
     requires next { sees (at_word w_unsafe) input.old ≡ true }
     ensures follows { (ts : Stream) → Follows IsSyntax syntax_of_Item rules.kept_item ts (run_plan (unsafe_stage begun) rules.kept_item ts input.old) result input.new }
@@ -77,30 +77,30 @@ pub(super) fn behind_unsafe(begun: Begun, input: &mut ParseBuffer<'_>) -> Parsed
     }
     if is_before_trait(input) {
         let unsafety = input.read()?;
-        return trait_behind(begun, None, unsafety, input);
+        return trait_after(begun, None, unsafety, input);
     }
     if is_before_impl(&begun, input) {
         let unsafety = input.read()?;
-        return impl_behind(begun, None, unsafety, input);
+        return impl_after(begun, None, unsafety, input);
     }
     module_or_function(begun, input)
 }
 
-/// Whether `trait` or `auto` stands past the next tree.
+/// Whether `trait` or `auto` follows the next token tree.
 fn is_before_trait(input: &ParseBuffer<'_>) -> bool
     ensures { result ≡ or (sees (at_word w_trait) (past input.now)) (sees (at_word w_auto) (past input.now)) }
 {
     input.peek2::<Trait>() || input.peek2::<Auto>()
 }
 
-/// Whether no visibility was read, and `impl` stands past the next tree.
+/// Whether no visibility was read, and `impl` follows the next token tree.
 fn is_before_impl(begun: &Begun, input: &ParseBuffer<'_>) -> bool
     ensures { result ≡ and (no_visibility (place_of begun.now.place)) (sees (at_word w_impl) (past input.now)) }
 {
     begun.is_plain() && input.peek2::<Impl>()
 }
 
-/// A foreign module where no visibility was read and braces stand behind the ABI; else a function.
+/// A foreign module where no visibility was read and braces follow the ABI; else a function.
 fn module_or_function(begun: Begun, input: &mut ParseBuffer<'_>) -> Parsed<Option<Item>>
     requires outer { all_attributes_syntax begun.attrs.items ≡ attributes_syntax begun.attrs.items }
     requires next { or (sees at_extern input.old) (sees (at_word w_unsafe) input.old) ≡ true }
@@ -113,7 +113,7 @@ fn module_or_function(begun: Begun, input: &mut ParseBuffer<'_>) -> Parsed<Optio
     function_or_kept(begun, input)
 }
 
-/// Whether no visibility was read, and a foreign module stands next. Refused only where memory is.
+/// Whether no visibility was read, and a foreign module is next. Refused only where memory is.
 fn is_foreign_module(begun: &Begun, input: &ParseBuffer<'_>) -> Parsed<bool>
     ensures { OrMemory IsSyntax result (λ answer. answer ≡ and (no_visibility (place_of begun.now.place)) (module_next input.now)) }
 {
@@ -123,7 +123,7 @@ fn is_foreign_module(begun: &Begun, input: &ParseBuffer<'_>) -> Parsed<bool>
     at_foreign_module(input)
 }
 
-/// Whether a foreign module stands next: perhaps `unsafe`, an ABI, and braces. Refused only where memory is.
+/// Whether a foreign module is next: perhaps `unsafe`, an ABI, and braces. Refused only where memory is.
 fn at_foreign_module(input: &ParseBuffer<'_>) -> Parsed<bool>
     ensures { OrMemory IsSyntax result (λ answer. answer ≡ module_next input.now) }
 {
@@ -149,7 +149,7 @@ pub(super) fn behind_const(begun: Begun, input: &mut ParseBuffer<'_>) -> Parsed<
     ensures follows { (ts : Stream) → Follows IsSyntax syntax_of_Item rules.kept_item ts (run_plan (const_stage begun) rules.kept_item ts input.old) result input.new }
 {
     if input.peek2::<Unsafe>() {
-        return behind_const_unsafe(begun, input);
+        return after_const_unsafe(begun, input);
     }
     if input.peek2::<Trait>() {
         let const_token = input.read()?;
@@ -157,7 +157,7 @@ pub(super) fn behind_const(begun: Begun, input: &mut ParseBuffer<'_>) -> Parsed<
     }
     if is_before_auto(input) {
         let constness = input.read()?;
-        return trait_behind(begun, constness, None, input);
+        return trait_after(begun, constness, None, input);
     }
     if input.peek2::<Impl>() {
         let constness = input.read()?;
@@ -169,21 +169,21 @@ pub(super) fn behind_const(begun: Begun, input: &mut ParseBuffer<'_>) -> Parsed<
     const_or_kept(begun, input)
 }
 
-/// Whether `auto` and `trait` stand past the next tree.
+/// Whether `auto` and `trait` follows the next token tree.
 fn is_before_auto(input: &ParseBuffer<'_>) -> bool
     ensures { result ≡ and (sees (at_word w_auto) (past input.now)) (sees (at_word w_trait) (past (past input.now))) }
 {
     input.peek2::<Auto>() && input.peek3::<Trait>()
 }
 
-/// Whether a word that goes on a signature stands past the next tree: `async`, `extern` or `fn`.
+/// Whether a word that continues a signature follows the next token tree: `async`, `extern` or `fn`.
 fn is_before_function(input: &ParseBuffer<'_>) -> bool
     ensures { result ≡ or (sees (at_word w_async) (past input.now)) (or (sees at_extern (past input.now)) (sees (at_word w_fn) (past input.now))) }
 {
     input.peek2::<Async>() || input.peek2::<Extern>() || input.peek2::<Fn>()
 }
 
-/// Whether `trait` or `auto` stands past the next two trees.
+/// Whether `trait` or `auto` follows the next two token trees.
 fn is_before_unsafe_trait(input: &ParseBuffer<'_>) -> bool
     ensures { result ≡ or (sees (at_word w_trait) (past (past input.now))) (sees (at_word w_auto) (past (past input.now))) }
 {
@@ -191,7 +191,7 @@ fn is_before_unsafe_trait(input: &ParseBuffer<'_>) -> bool
 }
 
 /// What begins with `const unsafe`: a trait, an impl or a function.
-fn behind_const_unsafe(begun: Begun, input: &mut ParseBuffer<'_>) -> Parsed<Option<Item>>
+fn after_const_unsafe(begun: Begun, input: &mut ParseBuffer<'_>) -> Parsed<Option<Item>>
     requires outer { all_attributes_syntax begun.attrs.items ≡ attributes_syntax begun.attrs.items }
     requires next { and (sees (at_word w_const) input.old) (sees (at_word w_unsafe) (past input.old)) ≡ true }
     ensures follows { (ts : Stream) → Follows IsSyntax syntax_of_Item rules.kept_item ts (run_plan (const_stage begun) rules.kept_item ts input.old) result input.new }
@@ -199,7 +199,7 @@ fn behind_const_unsafe(begun: Begun, input: &mut ParseBuffer<'_>) -> Parsed<Opti
     if is_before_unsafe_trait(input) {
         let constness = input.read()?;
         let unsafety = input.read()?;
-        return trait_behind(begun, constness, unsafety, input);
+        return trait_after(begun, constness, unsafety, input);
     }
     if input.peek3::<Impl>() {
         let constness = input.read()?;
@@ -209,8 +209,8 @@ fn behind_const_unsafe(begun: Begun, input: &mut ParseBuffer<'_>) -> Parsed<Opti
     function_or_kept(begun, input)
 }
 
-/// An impl behind its `const`, and perhaps `unsafe`; `None` where it is kept as its tokens, as behind `pub`. Behind an invisible group that
-/// stands for no visibility there is none.
+/// An impl after its `const`, and perhaps `unsafe`; `None` where it is kept verbatim, as after `pub`. After an invisible group that
+/// represents no visibility there is none.
 #[tactic(auto, using(crate::proofs::ConstPlans::public_kept, crate::proofs::ConstPlans::unwritten_refused, crate::proofs::ConstPlans::plain_follows))]
 fn const_impl(
     begun: Begun,
@@ -224,11 +224,11 @@ fn const_impl(
     match begun.place {
         Place::Public => Ok(None),
         Place::Unwritten => Err(input.refusal("unexpected token")),
-        Place::Plain => impl_behind(begun, constness, unsafety, input),
+        Place::Plain => impl_after(begun, constness, unsafety, input),
     }
 }
 
-/// A constant; `None` where it is kept as its tokens: with generics, with a where clause or without a value.
+/// A constant; `None` where it is kept verbatim: with generics, with a where clause or without a value.
 #[tactic(auto, unfolding(syn_grammar::specs::ItemPlan::const_plan))]
 fn const_or_kept(begun: Begun, input: &mut ParseBuffer<'_>) -> Parsed<Option<Item>>
     ensures follows { (ts : Stream) → Follows IsSyntax syntax_of_Item rules.kept_item ts (run_plan (const_or_kept_turn (attributes_syntax begun.attrs.items) (syntax_of_Visibility begun.vis)) rules.kept_item ts input.old) result input.new }

@@ -11,7 +11,7 @@ ghost use Rattle.syn_lower.specs.Parsing.{IsSyntax};
 ghost use Rattle.syn_tokens.specs.Kinds.{const_syntax, unsafe_syntax};
 ghost use Rattle.syn_tokens.specs.Leaves.{maybe};
 ghost use Rattle.syn_item.specs.Items.{syntax_of_Item};
-ghost use Rattle.syn_item.specs.ItemStages.{bare_impl_plan_of, impl_behind_marks, lone_word_plan};
+ghost use Rattle.syn_item.specs.ItemStages.{bare_impl_plan_of, impl_after_marks, lone_word_plan};
 ghost use Rattle.syn_item.specs.ItemTurns.{default_impl_turn, default_next};
 ghost use Rattle.syn_item.specs.Planned.{Follows};
 
@@ -24,9 +24,9 @@ use syn_parse::read::refusal::Parsed;
 use syn_recognize::item_looks::{at_in_restriction, at_lone_word};
 use syn_tokens::token::{Brace, Const, For, Unsafe, Where};
 
-/// An impl behind its `const` and `unsafe`, each of them or not; `None` where it is kept as its tokens: of what is no plain path for a type.
+/// An impl after its `const` and `unsafe`, each of them or not; `None` where it is kept verbatim: of what is no plain path for a type.
 #[tactic(auto, using(crate::proofs::ItemImpls::word_refused))]
-pub(super) fn impl_behind(
+pub(super) fn impl_after(
     begun: Begun,
     constness: Option<Const>,
     unsafety: Option<Unsafe>,
@@ -42,7 +42,7 @@ pub(super) fn impl_behind(
         unsafety,
         impl_token: input.read()?,
     };
-    behind_marks(marks, input)
+    after_marks(marks, input)
 }
 
 /// An impl that begins with `default`.
@@ -59,14 +59,14 @@ pub(super) fn default_impl(begun: Begun, input: &mut ParseBuffer<'_>) -> Parsed<
         unsafety: input.read()?,
         impl_token: input.read()?,
     };
-    behind_marks(marks, input)
+    after_marks(marks, input)
 }
 
-/// An impl, behind its word; `None` where it is kept as its tokens.
+/// An impl, after its word; `None` where it is kept verbatim.
 #[tactic(auto, using(crate::proofs::ItemImpls::list_refused))]
-fn behind_marks(marks: ImplMarks, input: &mut ParseBuffer<'_>) -> Parsed<Option<Item>>
+fn after_marks(marks: ImplMarks, input: &mut ParseBuffer<'_>) -> Parsed<Option<Item>>
     requires outer { all_attributes_syntax marks.attrs.items ≡ attributes_syntax marks.attrs.items }
-    ensures follows { (ts : Stream) → Follows IsSyntax syntax_of_Item rules.kept_item ts (run_plan (impl_behind_marks marks) rules.kept_item ts input.old) result input.new }
+    ensures follows { (ts : Stream) → Follows IsSyntax syntax_of_Item rules.kept_item ts (run_plan (impl_after_marks marks) rules.kept_item ts input.old) result input.new }
 {
     let generics = impl_generics(input)?;
     match impl_or_kept(marks, generics, input)? {
@@ -75,7 +75,7 @@ fn behind_marks(marks: ImplMarks, input: &mut ParseBuffer<'_>) -> Parsed<Option<
     }
 }
 
-/// What begins with `impl`: an impl, or, kept as its tokens, a trait behind a restriction in parentheses. Behind a visibility it is no impl.
+/// What begins with `impl`: an impl, or, kept verbatim, a trait after a restriction in parentheses. After a visibility it is no impl.
 #[tactic(auto, using(crate::proofs::ItemImpls::visible_kept, crate::proofs::ItemImpls::bare_refused, crate::proofs::ItemImpls::restriction_kept))]
 pub(super) fn bare_impl(begun: Begun, input: &mut ParseBuffer<'_>) -> Parsed<Option<Item>>
     requires outer { all_attributes_syntax begun.attrs.items ≡ attributes_syntax begun.attrs.items }
@@ -97,10 +97,10 @@ pub(super) fn bare_impl(begun: Begun, input: &mut ParseBuffer<'_>) -> Parsed<Opt
     if at_lone_word(input) {
         return impl_of_parentheses(marks, input);
     }
-    behind_marks(marks, input)
+    after_marks(marks, input)
 }
 
-/// An impl of a type in parentheses that hold one word; `None` where these are a trait's restriction, or stand before `for`.
+/// An impl of a type in parentheses that hold one word; `None` where these are a trait's restriction, or are before `for`.
 #[tactic(auto, using(crate::proofs::ItemImpls::lone_refused, crate::proofs::ItemImpls::lone_end_refused))]
 fn impl_of_parentheses(marks: ImplMarks, input: &mut ParseBuffer<'_>) -> Parsed<Option<Item>>
     requires outer { all_attributes_syntax marks.attrs.items ≡ attributes_syntax marks.attrs.items }
@@ -124,7 +124,7 @@ fn impl_of_parentheses(marks: ImplMarks, input: &mut ParseBuffer<'_>) -> Parsed<
     Ok(Some(Item::Impl(item)))
 }
 
-/// Whether what ends an impl stands next: `where`, or braces.
+/// Whether what ends an impl is next: `where`, or braces.
 #[tactic(auto, using(syn_grammar::proofs::Looks::sees_or))]
 fn at_impl_end(input: &ParseBuffer<'_>) -> bool
     ensures { result ≡ sees (at_where or_else at_brace) input.now }

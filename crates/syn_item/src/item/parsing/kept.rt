@@ -1,4 +1,4 @@
-//! Type aliases, statics and uses among items, some of which are kept as their tokens.
+//! Type aliases, statics and uses among items, some of which are kept verbatim.
 ghost use Rattle.std.specs.Prelude.{◌≡◌, true};
 ghost use Rattle.syn_grammar.specs.ItemPlan as plan;
 ghost use Rattle.syn_grammar.specs.Plan.{run_plan};
@@ -18,15 +18,15 @@ ghost use Rattle.syn_item.specs.Planned.{Follows, IsRead};
 use super::Begun;
 use crate::item::Item;
 use crate::pieces::type_head;
-use crate::simple::{ItemStatic, type_behind_head};
+use crate::simple::{ItemStatic, type_after_head};
 use crate::use_tree::use_item;
 use syn_parse::buffer::ParseBuffer;
 use syn_parse::read::refusal::{Parsed, Refusal};
 use syn_recognize::{Rule, read_by};
 use syn_tokens::token::{Brace, Colon, Eq};
 
-/// A type alias; `None` where it is kept as its tokens: with a colon behind its generics, or without `=` behind these and a where clause.
-/// Where a clause stands before the `=` and behind the type, what follows the second one is refused.
+/// A type alias; `None` where it is kept verbatim: with a colon after its generics, or without `=` after these and a where clause.
+/// Where a clause is before the `=` and after the type, what follows the second one is refused.
 #[tactic(auto, using(crate::proofs::TypePlans::head_refused, crate::proofs::TypePlans::alias_refused))]
 pub(super) fn type_or_kept(begun: Begun, input: &mut ParseBuffer<'_>) -> Parsed<Option<Item>>
     ensures follows { (ts : Stream) → Follows IsSyntax syntax_of_Item rules.kept_item ts (run_plan (plan.type_plan (attributes_syntax begun.attrs.items) (syntax_of_Visibility begun.vis)) rules.kept_item ts input.old) result input.new }
@@ -38,11 +38,11 @@ pub(super) fn type_or_kept(begun: Begun, input: &mut ParseBuffer<'_>) -> Parsed<
     if !is_alias(input)? {
         return Ok(None);
     }
-    let item = type_behind_head(begun.attrs, begun.vis, head, input)?;
+    let item = type_after_head(begun.attrs, begun.vis, head, input)?;
     Ok(Some(Item::Ty(item)))
 }
 
-/// Whether `=` stands behind the where clause that stands next, if one does. The clause is read by the recognizer, which makes no tree.
+/// Whether `=` follows the where clause that is next, if one does. The clause is read by the recognizer, which makes no tree.
 /// Refused only where memory is.
 #[tactic(auto, unfolding(syn_recognize::specs::Names::rule_of))]
 fn is_alias(input: &ParseBuffer<'_>) -> Parsed<bool>
@@ -56,7 +56,7 @@ fn is_alias(input: &ParseBuffer<'_>) -> Parsed<bool>
     }
 }
 
-/// A static; `None` where it is kept as its tokens: without a type, or without a value.
+/// A static; `None` where it is kept verbatim: without a type, or without a value.
 #[tactic(auto, unfolding(syn_grammar::specs::ItemPlan::static_plan))]
 pub(super) fn static_or_kept(begun: Begun, input: &mut ParseBuffer<'_>) -> Parsed<Option<Item>>
     ensures follows { (ts : Stream) → Follows IsSyntax syntax_of_Item rules.kept_item ts (run_plan (plan.static_plan (attributes_syntax begun.attrs.items) (syntax_of_Visibility begun.vis)) rules.kept_item ts input.old) result input.new }
@@ -89,7 +89,7 @@ pub(super) fn static_or_kept(begun: Begun, input: &mut ParseBuffer<'_>) -> Parse
     })))
 }
 
-/// A use; `None` where it is kept as its tokens: of trees in braces of which one has `::` before it.
+/// A use; `None` where it is kept verbatim: of trees in braces of which one has `::` before it.
 #[tactic(auto, using(crate::proofs::UsePlans::rooted_kept, crate::proofs::UsePlans::use_read, crate::proofs::UsePlans::use_refused))]
 pub(super) fn use_or_kept(begun: Begun, input: &mut ParseBuffer<'_>) -> Parsed<Option<Item>>
     requires next { sees (at_word w_use) input.old ≡ true }
@@ -102,7 +102,7 @@ pub(super) fn use_or_kept(begun: Begun, input: &mut ParseBuffer<'_>) -> Parsed<O
     Ok(Some(Item::Use(item)))
 }
 
-/// Whether the braces of a use stand past the next tree, and it isn't read. Refused only where memory is.
+/// Whether the braces of a use follows the next token tree, and it isn't read. Refused only where memory is.
 fn is_rooted_group(input: &ParseBuffer<'_>) -> Parsed<bool>
     ensures { OrMemory IsSyntax result (λ answer. IsRootedGroup answer input.now) }
 {
@@ -115,7 +115,7 @@ fn is_rooted_group(input: &ParseBuffer<'_>) -> Parsed<bool>
     Ok(true)
 }
 
-/// Whether a use stands next that isn't kept as its tokens. It is read by the recognizer, which makes no tree. Refused only where memory
+/// Whether a use is next that isn't kept verbatim. It is read by the recognizer, which makes no tree. Refused only where memory
 /// is.
 #[tactic(auto, unfolding(syn_recognize::specs::Names::rule_of))]
 fn is_use(input: &ParseBuffer<'_>) -> Parsed<bool>

@@ -24,9 +24,9 @@ use syn_parse::buffer::ParseBuffer;
 use syn_parse::read::refusal::Parsed;
 use syn_tokens::token::{Const, Eq, Unsafe};
 
-/// A trait behind its `const` and `unsafe`, each of them or not.
+/// A trait after its `const` and `unsafe`, each of them or not.
 #[tactic(auto, using(crate::proofs::ItemTraits::trait_refused))]
-pub(super) fn trait_behind(
+pub(super) fn trait_after(
     begun: Begun,
     constness: Option<Const>,
     unsafety: Option<Unsafe>,
@@ -73,7 +73,7 @@ pub(super) fn trait_or_alias(begun: Begun, input: &mut ParseBuffer<'_>) -> Parse
     Ok(Some(Item::Trait(item)))
 }
 
-/// The same behind `const`; `None` where it is kept as its tokens: as an alias.
+/// The same after `const`; `None` where it is kept verbatim: as an alias.
 #[tactic(auto, using(crate::proofs::ItemTraits::const_head_refused))]
 pub(super) fn const_trait(
     begun: Begun,
@@ -104,7 +104,7 @@ pub(super) fn const_trait(
     Ok(Some(Item::Trait(item)))
 }
 
-/// A trait alias, behind its generics.
+/// A trait alias, after its generics.
 fn trait_alias(head: TraitHead, input: &mut ParseBuffer<'_>) -> Parsed<ItemTraitAlias>
     ensures reads { Computes IsSyntax itself (wrap (alias_of head) (parse_form bounds_end_form input.old)) result input.new }
     ensures moved { Moved input.old result input.new }

@@ -6,10 +6,10 @@ use Rattle.syn_parse.specs.Refusals.{IsSyntax}
 use Rattle.syn_tokens.specs.Kinds.{plus_syntax}
 use Rattle.syn_lower.specs.Bounds.{syntax_of_TypeParamBound}
 use Rattle.syn_lower.proofs.BoundLists.{parameter_bounds_list}
-use Rattle.syn_lower.proofs.Solid.{answers_solid}
+use Rattle.syn_lower.proofs.Solid.{results_solid}
 use Rattle.syn_lower.proofs.bounds.parameter_bounds.Goals as goal
 
 pub returns-clause-reads : goal.returns-clause-reads
 returns-clause-reads c =
-    answers_solid parameter_bounds bound _ _ _ parameter_bounds_list 4 refl IsSyntax syntax_of_TypeParamBound plus_syntax c.args.input.now c.punctuated_list.result c.punctuated_list.new.input
+    results_solid parameter_bounds bound _ _ _ parameter_bounds_list 4 refl IsSyntax syntax_of_TypeParamBound plus_syntax c.args.input.now c.punctuated_list.result c.punctuated_list.new.input
     (c.punctuated_list.ensures.reads parameter_bounds (of (rule bound)) syntax_of_TypeParamBound parameter_bounds_list (record { says = λ old new x h. search (rules, h) }))

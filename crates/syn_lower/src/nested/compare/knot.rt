@@ -23,7 +23,7 @@ impl<T: Fn(&Type, &Type) -> bool> CompareType for Knot<T> {
     }
 }
 
-/// Never: behind one type alone a tuple has a comma.
+/// Never: after one type alone a tuple has a comma.
 #[tactic(auto, using(crate::proofs::Types::paren_no_tuple, crate::proofs::Types::tuple_no_paren))]
 fn is_tuple(paren: &TypeParen, tuple: &TypeTuple) -> bool
     ensures same { result ≡ same_syntax paren.now tuple.now }

@@ -13,7 +13,7 @@ use crate::nested::print::Ordered;
 use syn_tokens::punctuated::Punctuated;
 use syn_tokens::token::Comma;
 
-/// Whether both have the same members in turn, and a comma behind the last or none.
+/// Whether both have the same members in turn, and a comma after the last or none.
 #[tactic(auto, using(crate::proofs::Smaller::pairs_smaller))]
 pub fn same_ordered<N: CompareType, T: CompareNested + Ordered>(
     nested: &N,

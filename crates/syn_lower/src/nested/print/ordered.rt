@@ -34,7 +34,7 @@ pub trait Ordered: Syntactic {
 }
 
 /// Adds the members of a list: first those that are printed first, in their order, each with its comma, and then the others.
-/// Behind the last one a comma is added where it isn't the last any more.
+/// After the last one a comma is added where it isn't the last any more.
 #[tactic(auto, using(crate::proofs::Ordered::sorted_row))]
 pub fn print_ordered<N: PrintType, T: PrintNested + Ordered>(
     nested: &N,
@@ -85,7 +85,7 @@ fn print_members<N: PrintType, T: PrintNested + Ordered>(
     }
 }
 
-/// A member with its comma, if it is one of those that are wanted.
+/// A member with its comma, if it is one of those that are needed.
 #[tactic(auto, using(syn_tokens::proofs::Prints::prints), unfolding(crate::specs::OrderedPrints::pair_part))]
 fn print_pair<N: PrintType, T: PrintNested + Ordered>(
     first: bool,
@@ -105,7 +105,7 @@ fn print_pair<N: PrintType, T: PrintNested + Ordered>(
     Ok(())
 }
 
-/// A member that no comma follows, if it is one of those that are wanted.
+/// A member that no comma follows, if it is one of those that are needed.
 #[tactic(auto, using(syn_tokens::proofs::Prints::prints), unfolding(crate::specs::OrderedPrints::last_part))]
 fn print_last<N: PrintType, T: PrintNested + Ordered>(
     first: bool,
@@ -123,7 +123,7 @@ fn print_last<N: PrintType, T: PrintNested + Ordered>(
     Ok(())
 }
 
-/// A comma, which stands at one place.
+/// A comma, which is at one place.
 #[tactic(auto, unfolding(syn_tokens::specs::Punct::is_punct_character))]
 fn print_comma(comma: &Comma, out: &mut StreamBuilder) -> Result<(), AllocError>
     ensures prints { OnOk result (out.new ≡ added out.old (comma_at (place_of (comma_syntax comma.now)))) }
@@ -133,7 +133,7 @@ fn print_comma(comma: &Comma, out: &mut StreamBuilder) -> Result<(), AllocError>
     out.add_punct(',', Spacing::Alone, span)
 }
 
-/// The comma behind the last member, where that is printed first and others follow it then.
+/// The comma after the last member, where that is printed first and others follow it then.
 #[tactic(auto, using(syn_tokens::proofs::Prints::prints))]
 fn print_comma_between<T: Ordered>(
     list: &Punctuated<T, Comma>,
@@ -143,14 +143,14 @@ fn print_comma_between<T: Ordered>(
     ensures begins { out.new.before ≡ out.old.before }
 {
     match list.trailing_value() {
-        Some(last) => print_comma_behind(last, list.pairs(), out),
+        Some(last) => print_comma_after(last, list.pairs(), out),
         None => Ok(()),
     }
 }
 
-/// The comma behind this last member, if it is wanted.
+/// The comma after this last member, if it is needed.
 #[tactic(auto, using(syn_tokens::proofs::Prints::prints))]
-fn print_comma_behind<T: Ordered>(
+fn print_comma_after<T: Ordered>(
     last: &T,
     pairs: &[(T, Comma)],
     out: &mut StreamBuilder,

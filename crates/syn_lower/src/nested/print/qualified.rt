@@ -15,7 +15,7 @@ use syn_tokens::punctuated::Punctuated;
 use syn_tokens::stream::builder::StreamBuilder;
 use syn_tokens::token::Gt;
 
-/// A path with a type in `< >` before it: the words of the trait stand inside, behind `as`.
+/// A path with a type in `< >` before it: the words of the trait are inside, after `as`.
 #[tactic(auto, using(syn_tokens::proofs::Prints::prints))]
 pub fn print_qualified<N: PrintType>(
     nested: &N,
@@ -30,12 +30,12 @@ pub fn print_qualified<N: PrintType>(
     let _words = &path.segments;
     qself.lt_token.print_in(out)?;
     nested.print_type(&qself.ty, out)?;
-    print_behind_type(nested, qself, path, out)
+    print_after_type(nested, qself, path, out)
 }
 
-/// What stands behind its type. A position behind the last word counts as that; without a word inside no `as` is printed.
+/// What follows its type. A position after the last word counts as that; without a word inside no `as` is printed.
 #[tactic(auto, using(syn_tokens::proofs::Prints::prints, crate::proofs::QualifiedPaths::print_no_word_inside, crate::proofs::QualifiedPaths::print_words_inside, crate::proofs::QualifiedPaths::print_part, crate::specs::Falls::qualified_size, crate::proofs::Smaller::in_joined))]
-fn print_behind_type<N: PrintType>(
+fn print_after_type<N: PrintType>(
     nested: &N,
     qself: &QSelf,
     path: &Path,
@@ -57,7 +57,7 @@ fn print_behind_type<N: PrintType>(
     }
 }
 
-/// The words of a path, so many of them inside: `>` stands behind the last of these.
+/// The words of a path, so many of them inside: `>` follows the last of these.
 #[tactic(auto, using(syn_tokens::proofs::Prints::prints, crate::proofs::QualifiedPaths::words_step, crate::proofs::QualifiedPaths::words_done, crate::proofs::Smaller::value_smaller, crate::proofs::Smaller::last_smaller))]
 fn print_words<N: PrintType, T: PrintNested, P: Print>(
     nested: &N,

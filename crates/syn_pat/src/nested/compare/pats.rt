@@ -10,7 +10,7 @@ use crate::nested::compare::{CompareNested, CompareOf, Knot};
 use crate::pat::{PatParen, PatPath, PatTuple, PatTupleStruct, PatType};
 use syn_tokens::syntactic::compare::Compared;
 
-/// Never: behind one pattern alone a tuple has a comma.
+/// Never: after one pattern alone a tuple has a comma.
 #[tactic(auto, using(syn_lower::proofs::Types::paren_no_tuple, syn_lower::proofs::Types::tuple_no_paren))]
 fn is_tuple(paren: &PatParen, tuple: &PatTuple) -> bool
     ensures same { result ≡ same_syntax (in_parentheses paren.now) (in_parentheses tuple.now) }
@@ -20,7 +20,7 @@ fn is_tuple(paren: &PatParen, tuple: &PatTuple) -> bool
     false
 }
 
-/// Never: behind a path alone no parentheses stand.
+/// Never: no parentheses follow a path alone.
 #[tactic(auto, using(syn_grammar::proofs::Same::and_false))]
 fn is_tuple_struct(path: &PatPath, tuple: &PatTupleStruct) -> bool
     ensures same { result ≡ same_syntax (by_path (Both path.now (Right Nothing))) (by_path tuple.now) }
@@ -30,7 +30,7 @@ fn is_tuple_struct(path: &PatPath, tuple: &PatTupleStruct) -> bool
     false
 }
 
-/// Never: a pattern with its type stands in no node.
+/// Never: a pattern with its type is in no node.
 #[tactic(auto, using(crate::proofs::Patterns::typed_apart, crate::proofs::Patterns::apart_typed))]
 fn is_untyped(typed: &PatType) -> bool
     ensures same { (s : Syntax) → result ≡ same_syntax typed.now (Node s) }

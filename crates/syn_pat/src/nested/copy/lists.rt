@@ -1,5 +1,5 @@
 //! Boxes and lists of what leads back to itself. A large value is made and moved here alone: each call of a generic function at its type
-//! is dear to check.
+//! is costly to check.
 ghost use Rattle.std.specs.Prelude.{◌≡◌, ◌≤◌, ℕ, IfOk, None, map};
 ghost use Rattle.syn_tokens.specs.InOrder.{in_order, pair_of};
 ghost use Rattle.syn_tokens.specs.Listing.{list_of};

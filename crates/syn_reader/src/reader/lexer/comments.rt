@@ -11,7 +11,7 @@ impl<'a> Lexer<'a> {
     ghost use Rattle.syn_reader.specs.Places.{left, Onward, IsPast};
     ghost use Rattle.syn_reader.specs.Lexemes.{IsLexemeFrom};
 
-    /// The comment that begins at `start` and whose first character was stepped over.
+    /// The comment from `start`, whose first character is consumed.
     pub(super) fn comment(&mut self, start: &Cursor<'a>) -> Result<Lexeme<'a>>
         requires past { IsPast 47 start.now self.old.cursor }
         requires begins { begins_comment (left start.now) ≡ true }
@@ -24,7 +24,7 @@ impl<'a> Lexer<'a> {
         Ok(Lexeme::Comment(self.cursor.text_since(start), self.cursor.span_since(start)))
     }
 
-    /// Steps to the end of the comment; false where the text ends before it.
+    /// Skips to the end of the comment; false if the text ends before it.
     #[tactic(auto, unfolding(crate::specs::Scanning::after_comment))]
     fn comment_ends(&mut self) -> bool
         requires inside { 0 < self.old.cursor.offset }
@@ -39,7 +39,7 @@ impl<'a> Lexer<'a> {
         true
     }
 
-    /// Steps behind the `*/` that closes a block comment, where others may stand in it.
+    /// Skips past the `*/` that closes a block comment, which may contain nested ones.
     fn block_ends(&mut self) -> bool
         requires inside { 0 < self.old.cursor.offset }
         ensures onward { Onward self.old.cursor self.new.cursor }
@@ -61,7 +61,7 @@ impl<'a> Lexer<'a> {
         true
     }
 
-    /// Whether the character, which was stepped over, is the first of these, and the second stands next.
+    /// Whether the consumed character is the first of these, and the second is next.
     fn is_pair(&self, character: char, first: char, second: char) -> bool
         ensures { result ≡ (character == first && begins_with second (left self.now.cursor)) }
     {

@@ -1,12 +1,12 @@
-//! Why a text can't be cut any further.
+//! Errors of the lexer.
 ghost use Rattle.std.specs.Prelude.{◌≡◌, ◌∷◌, [], codes};
 
 use std::marker::Model;
 use syn_tokens::error::{Error, Fault};
 use syn_tokens::span::Span;
 
-/// The one thing that is wrong where no lexeme stands. An `Error` has room for four, and each lexeme would be handed on with
-/// that room.
+/// The only fault at a position where no lexeme starts. It is smaller than an `Error`, which has room for four faults, so that
+/// the result of each lexeme stays small.
 #[derive(Drop)]
 pub(in crate::reader) struct LexError {
     fault: Fault,
@@ -24,7 +24,7 @@ impl Model for LexError {
     ghost view = { λ e. fault_of e.fault ∷ [] };
 }
 
-/// What cutting a text answers.
+/// The result of the lexer.
 pub(in crate::reader) type Result<T> = std::result::Result<T, LexError>;
 
 impl From<LexError> for Error {

@@ -19,7 +19,7 @@ impl<'a> Lexer<'a> {
     ghost use Rattle.syn_reader.specs.Places.{IsPast};
     ghost use Rattle.syn_reader.specs.Lexemes.{IsLexemeFrom};
 
-    /// What begins with `'`, which was stepped over: a character, or the `'` of a lifetime.
+    /// The lexeme that starts with `'`, which is consumed: a character, or the `'` of a lifetime.
     pub(super) fn apostrophe(&mut self, start: &Cursor<'a>) -> Result<Lexeme<'a>>
         requires past { IsPast 39 start.now self.old.cursor }
         requires first { Stands start.now.text.now (encode_utf8 39) start.now.offset self.old.cursor.offset }
@@ -37,7 +37,7 @@ impl<'a> Lexer<'a> {
         }
     }
 
-    /// The byte that begins at `start` with `b`, which was stepped over, and an opening quote.
+    /// The byte from `start`, whose `b` is consumed, with an opening quote next.
     pub(super) fn byte(&mut self, start: &Cursor<'a>) -> Result<Lexeme<'a>>
         requires past { IsPast 98 start.now self.old.cursor }
         requires begins { begins_byte (left self.old.cursor) ≡ true }
@@ -48,7 +48,7 @@ impl<'a> Lexer<'a> {
         self.character(LitKind::Byte, start)
     }
 
-    /// What begins with `b` or `c`, which was stepped over: a string of that kind, or an identifier.
+    /// The lexeme that starts with `b` or `c`, which is consumed: a string of that kind, or an identifier.
     pub(super) fn prefixed(
         &mut self,
         kind: LitKind,
@@ -73,7 +73,7 @@ impl<'a> Lexer<'a> {
         Ok(self.identifier(start))
     }
 
-    /// The string whose opening quote was stepped over.
+    /// The string whose opening quote is consumed.
     pub(super) fn quoted(&mut self, kind: LitKind, start: &Cursor<'a>) -> Result<Lexeme<'a>>
         requires text { self.old.cursor.text ≡ start.now.text }
         requires earlier { start.now.offset < self.old.cursor.offset }
@@ -85,7 +85,7 @@ impl<'a> Lexer<'a> {
         self.literal(is_closed, kind, start)
     }
 
-    /// The raw string whose letters were stepped over.
+    /// The raw string whose prefix letters are consumed.
     pub(super) fn raw_string(&mut self, kind: LitKind, start: &Cursor<'a>) -> Result<Lexeme<'a>>
         requires text { self.old.cursor.text ≡ start.now.text }
         requires earlier { start.now.offset < self.old.cursor.offset }
@@ -97,7 +97,7 @@ impl<'a> Lexer<'a> {
         self.literal(is_closed, kind, start)
     }
 
-    /// The character or byte whose opening quote was stepped over.
+    /// The character or byte whose opening quote is consumed.
     fn character(&mut self, kind: LitKind, start: &Cursor<'a>) -> Result<Lexeme<'a>>
         requires text { self.old.cursor.text ≡ start.now.text }
         requires earlier { start.now.offset < self.old.cursor.offset }
@@ -110,7 +110,7 @@ impl<'a> Lexer<'a> {
         self.literal(is_closed, kind, start)
     }
 
-    /// Steps behind the closing quote of a character or byte. False where the text ends before.
+    /// Skips past the closing quote of a character or byte. False if the text ends before it.
     fn character_closes(&mut self) -> bool
         requires { begins_character (left self.old.cursor) ≡ true }
         ensures onward { Onward self.old.cursor self.new.cursor }
@@ -124,7 +124,7 @@ impl<'a> Lexer<'a> {
         true
     }
 
-    /// Steps over the next character and answers it. At the end of the text it stays there.
+    /// Consumes the next character and returns it; none at the end of the text.
     pub(super) fn step(&mut self) -> Option<char>
         ensures onward { Onward self.old.cursor self.new.cursor }
         ensures further { OnSome result (self.old.cursor.offset < self.new.cursor.offset) }
@@ -137,7 +137,7 @@ impl<'a> Lexer<'a> {
         Some(next)
     }
 
-    /// Steps behind the next such quote; a backslash takes the character behind it along. False where the text ends before.
+    /// Skips past the next such quote; a backslash escapes the character after it. False if the text ends before it.
     fn closes_by(&mut self, quote: char) -> bool
         ensures onward { Onward self.old.cursor self.new.cursor }
         ensures closes { after_quote quote (left self.old.cursor) ≡ where_found result (left self.new.cursor) }
@@ -153,8 +153,8 @@ impl<'a> Lexer<'a> {
         false
     }
 
-    /// Steps behind the end of a raw string that begins by `#`s and a quote: a quote and as many `#`s. False where the text
-    /// ends before.
+    /// Skips past the end of a raw string that starts with `#`s and a quote: a quote and as many `#`s. False if the text ends
+    /// before it.
     fn raw_closes(&mut self) -> bool
         ensures onward { Onward self.old.cursor self.new.cursor }
         ensures closes { after_raw_string 0 (left self.old.cursor) ≡ where_found result (left self.new.cursor) }
@@ -173,7 +173,7 @@ impl<'a> Lexer<'a> {
         false
     }
 
-    /// Steps behind the next quote that so many `#`s follow, and behind these. False where the text ends before.
+    /// Skips past the next quote that is followed by so many `#`s, and past these. False if the text ends before them.
     fn raw_content_closes(&mut self, hashes: usize) -> bool
         ensures onward { Onward self.old.cursor self.new.cursor }
         ensures closes { after_raw hashes (left self.old.cursor) ≡ where_found result (left self.new.cursor) }
@@ -186,7 +186,7 @@ impl<'a> Lexer<'a> {
         false
     }
 
-    /// Steps over so many `#`s and answers true, or over as many as there are where these are fewer.
+    /// Consumes so many `#`s and returns true; if there are fewer, consumes those and returns false.
     fn skip_hashes(&mut self, hashes: usize) -> bool
         ensures onward { Onward self.old.cursor self.new.cursor }
         ensures no_more { length (left self.new.cursor) ≤ length (left self.old.cursor) }
@@ -203,7 +203,7 @@ impl<'a> Lexer<'a> {
         true
     }
 
-    /// The literal that is stepped over but for its suffix; refused where it was not closed.
+    /// The literal that is consumed up to its suffix; fails if it was not closed.
     #[tactic(auto, unfolding(crate::specs::Scanning::closed))]
     fn literal(&mut self, is_closed: bool, kind: LitKind, start: &Cursor<'a>) -> Result<Lexeme<'a>>
         requires text { self.old.cursor.text ≡ start.now.text }
@@ -219,7 +219,7 @@ impl<'a> Lexer<'a> {
         Ok(self.literal_since(kind, start))
     }
 
-    /// Steps over the suffix of a literal, if there is one.
+    /// Skips the suffix of a literal, if there is one.
     #[tactic(auto, unfolding(crate::specs::Scanning::behind_suffix))]
     fn skip_suffix(&mut self)
         ensures onward { Onward self.old.cursor self.new.cursor }
@@ -230,7 +230,7 @@ impl<'a> Lexer<'a> {
         }
     }
 
-    /// The literal that goes from `start` to here.
+    /// The literal from `start` to this position.
     pub(super) fn literal_since(&self, kind: LitKind, start: &Cursor<'a>) -> Lexeme<'a>
         requires text { self.now.cursor.text ≡ start.now.text }
         requires earlier { start.now.offset < self.now.cursor.offset }
@@ -245,7 +245,7 @@ impl<'a> Lexer<'a> {
     }
 }
 
-/// Whether the text goes on as a raw string does behind its letters.
+/// Whether the text after the prefix letters continues as a raw string.
 #[tactic(auto, unfolding(crate::specs::Scanning::begins_raw_string))]
 pub(super) fn begins_raw_string(cursor: Cursor<'_>) -> bool
     ensures { result ≡ begins_raw_string (left cursor.entry) }
@@ -255,7 +255,7 @@ pub(super) fn begins_raw_string(cursor: Cursor<'_>) -> bool
     ahead.is_at('"')
 }
 
-/// Whether the text goes on as a raw string does behind its `b` or `c`.
+/// Whether the text after a `b` or `c` continues as a raw string.
 fn begins_prefixed_raw_string(cursor: Cursor<'_>) -> bool
     ensures { result ≡ (begins_with 114 (left cursor.entry) && begins_raw_string (drop 1 (left cursor.entry))) }
 {
@@ -266,7 +266,7 @@ fn begins_prefixed_raw_string(cursor: Cursor<'_>) -> bool
     }
 }
 
-/// Whether the text goes on as a byte does behind its `b`.
+/// Whether the text after a `b` continues as a byte.
 #[tactic(auto, unfolding(crate::specs::Scanning::begins_byte))]
 pub(super) fn begins_byte(cursor: Cursor<'_>) -> bool
     ensures { result ≡ begins_byte (left cursor.entry) }
@@ -278,7 +278,7 @@ pub(super) fn begins_byte(cursor: Cursor<'_>) -> bool
     }
 }
 
-/// Whether the text goes on as a character does behind its opening quote.
+/// Whether the text after an opening quote continues as a character.
 #[tactic(auto, unfolding(crate::specs::Scanning::begins_character))]
 fn begins_character(cursor: Cursor<'_>) -> bool
     ensures { result ≡ begins_character (left cursor.entry) }

@@ -12,7 +12,7 @@ impl<'a> Lexer<'a> {
     ghost use Rattle.syn_reader.specs.Places.{IsPast};
     ghost use Rattle.syn_reader.specs.Lexemes.{IsLexemeFrom};
 
-    /// The number that begins at `start` with that digit, which was stepped over.
+    /// The number from `start`, whose first digit is consumed.
     pub(super) fn number(&mut self, start: &Cursor<'a>, first: char) -> Lexeme<'a>
         requires past { IsPast first start.now self.old.cursor }
         requires literal { literal_at (left start.now) ≡ number_at first (left self.old.cursor) }
@@ -23,7 +23,7 @@ impl<'a> Lexer<'a> {
         self.literal_since(kind, start)
     }
 
-    /// Steps over a number, whose first digit was stepped over, and answers what it is.
+    /// Skips the rest of a number, whose first digit is consumed, and returns its kind.
     #[tactic(auto, unfolding(crate::specs::Scanning::number_at))]
     fn number_kind(&mut self, first: char) -> LitKind
         ensures onward { Onward self.old.cursor self.new.cursor }
@@ -37,7 +37,7 @@ impl<'a> Lexer<'a> {
         }
     }
 
-    /// Steps over a number without a base, whose first digit was stepped over, and answers what it is.
+    /// Skips the rest of a number without a base prefix, whose first digit is consumed, and returns its kind.
     #[tactic(auto, unfolding(crate::specs::Scanning::decimal_at))]
     fn decimal(&mut self) -> LitKind
         ensures onward { Onward self.old.cursor self.new.cursor }
@@ -56,7 +56,7 @@ impl<'a> Lexer<'a> {
         LitKind::Float
     }
 
-    /// Steps over decimal digits, an exponent where one may stand, and the letters and digits behind them.
+    /// Skips decimal digits, an exponent if one is allowed, and the letters and digits after them.
     #[tactic(auto, unfolding(crate::specs::Scanning::after_digits, crate::specs::Scanning::has_exponent, crate::specs::Scanning::is_plain))]
     fn digits(&mut self, may_have_exponent: bool) -> Digits
         ensures onward { Onward self.old.cursor self.new.cursor }
@@ -74,7 +74,7 @@ impl<'a> Lexer<'a> {
         }
     }
 
-    /// Whether an exponent may stand next and does. If so, its letter and its sign are stepped over.
+    /// Skips the letter and sign of an exponent, if one is allowed and next; returns whether it is.
     fn exponent(&mut self, may_stand: bool) -> bool
         ensures onward { Onward self.old.cursor self.new.cursor }
         ensures found { result ≡ (may_stand && is_some (after_exponent (left self.old.cursor))) }
@@ -93,7 +93,7 @@ impl<'a> Lexer<'a> {
     }
 }
 
-/// What the digits of a number have behind them.
+/// What follows the digits of a number.
 #[derive(Clone, Copy)]
 struct Digits {
     has_exponent: bool,
@@ -101,7 +101,7 @@ struct Digits {
     is_plain: bool,
 }
 
-/// The place behind the letter and the sign of an exponent, if an exponent stands next.
+/// The position after the letter and the sign of an exponent, if an exponent is next.
 #[tactic(auto, unfolding(crate::specs::Scanning::after_exponent))]
 fn behind_exponent(cursor: Cursor<'_>) -> Option<Cursor<'_>>
     ensures onward { IfSome result (Onward cursor.entry) }
@@ -114,7 +114,7 @@ fn behind_exponent(cursor: Cursor<'_>) -> Option<Cursor<'_>>
     }
 }
 
-/// The place behind the sign of an exponent, or the same place where it has none; no place where no digit follows.
+/// The position after the sign of an exponent, or the same position if it has no sign; none if no digit follows.
 #[tactic(auto, unfolding(crate::specs::Scanning::after_sign))]
 fn behind_sign(cursor: Cursor<'_>) -> Option<Cursor<'_>>
     ensures onward { IfSome result (Onward cursor.entry) }
@@ -137,21 +137,21 @@ fn behind_sign(cursor: Cursor<'_>) -> Option<Cursor<'_>>
     }
 }
 
-/// Whether a sign stands next.
+/// Whether a sign is next.
 fn is_at_sign(cursor: Cursor<'_>) -> bool
     ensures { result ≡ (begins_with 43 (left cursor.entry) || begins_with 45 (left cursor.entry)) }
 {
     cursor.is_at('+') || cursor.is_at('-')
 }
 
-/// Whether the letter of a base stands next: `x`, `o` or `b`.
+/// Whether the letter of a base is next: `x`, `o` or `b`.
 fn is_at_base(cursor: Cursor<'_>) -> bool
     ensures { result ≡ (begins_with 120 (left cursor.entry) || begins_with 111 (left cursor.entry) || begins_with 98 (left cursor.entry)) }
 {
     cursor.is_at('x') || cursor.is_at('o') || cursor.is_at('b')
 }
 
-/// Whether a digit stands next.
+/// Whether a digit is next.
 fn is_at_digit(cursor: Cursor<'_>) -> bool
     ensures { result ≡ first_passes is_ascii_digit (left cursor.entry) }
 {
@@ -161,7 +161,7 @@ fn is_at_digit(cursor: Cursor<'_>) -> bool
     }
 }
 
-/// Whether a digit, a letter or `_` stands next.
+/// Whether a digit, a letter or `_` is next.
 fn is_at_letter(cursor: Cursor<'_>) -> bool
     ensures { result ≡ first_passes goes_on_number (left cursor.entry) }
 {
@@ -171,7 +171,7 @@ fn is_at_letter(cursor: Cursor<'_>) -> bool
     }
 }
 
-/// Whether the text goes on with the `.` of a number: no other `.`, no `_` and no identifier follows it.
+/// Whether the `.` of a number is next: no other `.`, no `_` and no identifier follows it.
 #[tactic(auto, unfolding(crate::specs::Scanning::begins_fraction))]
 fn begins_fraction(cursor: Cursor<'_>) -> bool
     ensures { result ≡ begins_fraction (left cursor.entry) }

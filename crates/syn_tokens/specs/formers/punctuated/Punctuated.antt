@@ -1,4 +1,4 @@
--- `Punctuated` as a type that may hold the type that holds it, by its values.
+-- `Punctuated` as a type constructor for recursive types, by its values.
 use Rattle.std.specs.Prelude.{◌≡◌, ◌+◌, ◌<◌, ◌^◌, List, [], ◌∷◌, ◌++◌, length, map, Option, Some, None}
 use mathlib.Core.Path.{refl, sym, ap, subst}
 use mathlib.Core.Logic.{◌⊎◌, inl, inr}

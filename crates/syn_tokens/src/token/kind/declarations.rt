@@ -1,3 +1,5 @@
+//! Written by tools/tokens.py; edits are lost.
+//!
 //! Words of declarations and paths.
 ghost use Rattle.std.specs.Prelude.{refl};
 ghost use Rattle.syn_grammar.specs.Words.{w_const, w_crate, w_enum, w_extern, w_fn, w_impl, w_in, w_mod, w_pub, w_Self_type, w_self, w_static, w_struct, w_super, w_trait, w_type, w_unsafe, w_use, w_where};

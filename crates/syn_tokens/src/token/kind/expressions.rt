@@ -1,3 +1,5 @@
+//! Written by tools/tokens.py; edits are lost.
+//!
 //! Words of expressions, patterns and types.
 ghost use Rattle.std.specs.Prelude.{refl};
 ghost use Rattle.syn_grammar.specs.Words.{w_as, w_async, w_await, w_break, w_continue, w_dyn, w_else, w_false, w_for, w_if, w_let, w_loop, w_match, w_move, w_mut, w_ref, w_return, w_true, w_underscore, w_while};

@@ -1,3 +1,5 @@
+//! Written by tools/tokens.py; edits are lost.
+//!
 //! The delimiters of groups.
 ghost use Rattle.std.specs.Prelude.{codes};
 ghost use Rattle.syn_grammar.specs.Tokens as grammar;
@@ -56,7 +58,7 @@ impl DelimiterKind for Bracket {
     }
 }
 
-/// The delimiters of an invisible group: no text shows them.
+/// The delimiters of an invisible group, which appear in no text.
 pub struct Group;
 
 impl DelimiterKind for Group {

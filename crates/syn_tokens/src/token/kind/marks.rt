@@ -1,3 +1,5 @@
+//! Written by tools/tokens.py; edits are lost.
+//!
 //! Marks of one character.
 ghost use Rattle.std.specs.Prelude.{refl};
 ghost use Rattle.syn_tokens.specs.Punct.{is_punct_character};

@@ -1,4 +1,6 @@
-//! Words that are reserved, and words that are keywords in some places alone.
+//! Written by tools/tokens.py; edits are lost.
+//!
+//! Reserved words, and words that are keywords only in some places.
 ghost use Rattle.std.specs.Prelude.{refl};
 ghost use Rattle.syn_grammar.specs.Words.{w_abstract, w_auto, w_become, w_box, w_default, w_do, w_final, w_macro, w_override, w_priv, w_safe, w_try, w_typeof, w_union, w_unsized, w_virtual, w_yield};
 ghost use Rattle.syn_tokens.specs.Leaves.{is_known_word};

@@ -8,44 +8,31 @@ use syn_tokens::error::Result;
 use syn_tokens::syntactic::try_clone::TryClone;
 
 impl TryClone for ConstModifiers {
-    fn try_clone(&self, alloc: Global) -> Result<ConstModifiers> {
-        Ok(ConstModifiers {
-            defaultness: self.defaultness.try_clone(alloc)?,
-        })
+    fn try_clone(&self, _alloc: Global) -> Result<ConstModifiers> {
+        Ok(*self)
     }
 }
 
 impl TryClone for FnModifiers {
-    fn try_clone(&self, alloc: Global) -> Result<FnModifiers> {
-        Ok(FnModifiers {
-            defaultness: self.defaultness.try_clone(alloc)?,
-        })
+    fn try_clone(&self, _alloc: Global) -> Result<FnModifiers> {
+        Ok(*self)
     }
 }
 
 impl TryClone for TypeModifiers {
-    fn try_clone(&self, alloc: Global) -> Result<TypeModifiers> {
-        Ok(TypeModifiers {
-            defaultness: self.defaultness.try_clone(alloc)?,
-        })
+    fn try_clone(&self, _alloc: Global) -> Result<TypeModifiers> {
+        Ok(*self)
     }
 }
 
 impl TryClone for ImplModifiers {
-    fn try_clone(&self, alloc: Global) -> Result<ImplModifiers> {
-        Ok(ImplModifiers {
-            defaultness: self.defaultness.try_clone(alloc)?,
-            constness: self.constness,
-            polarity: self.polarity,
-        })
+    fn try_clone(&self, _alloc: Global) -> Result<ImplModifiers> {
+        Ok(*self)
     }
 }
 
 impl TryClone for TraitModifiers {
     fn try_clone(&self, _alloc: Global) -> Result<TraitModifiers> {
-        Ok(TraitModifiers {
-            constness: self.constness,
-            auto_token: self.auto_token,
-        })
+        Ok(*self)
     }
 }

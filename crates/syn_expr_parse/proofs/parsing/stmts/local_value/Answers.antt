@@ -7,7 +7,7 @@ use Rattle.syn_grammar.specs.Promises.{Computes}
 use Rattle.syn_parse.specs.Refusals.{IsSyntax}
 use Rattle.syn_tokens.specs.Kinds.{else_syntax, eq_syntax}
 use Rattle.syn_tokens.specs.Leaves.{maybe}
-use Rattle.syn_expr_parse.specs.Parts.{block_behind_else}
+use Rattle.syn_expr_parse.specs.Parts.{block_after_else}
 use Rattle.syn_expr_parse.specs.StatementForms.{diverges, local_value, valued}
 use Rattle.syn_expr_parse.specs.Parts.{diverging}
 use Rattle.syn_recognize.specs.Trailing.{ends_by}
@@ -34,6 +34,6 @@ returns-clause-reads g c =
     let inner : parse_rule whole_expression ts ≡ Some (e, m) = search rules in
     let turned : local_value sign ts ≡ valued sign e (diverges (ends_by false (before c.fork-start.result m)) m) =
     value_read sign e ts m inner ∙ ap (λ s. valued sign e (diverges (ends_by false (before s m)) m)) (sym c.fork-start.ensures) in
-    let other = diverging (maybe (λ p. Both (else_syntax p.0) (block_behind_else (g.N.Trees.Trees.expr_syntax p.1.value))) c.in_ok-diverge.diverge) in
+    let other = diverging (maybe (λ p. Both (else_syntax p.0) (block_after_else (g.N.Trees.Trees.expr_syntax p.1.value))) c.in_ok-diverge.diverge) in
     let behind : diverges (ends_by false (before c.fork-start.result m)) m ≡ Some (other, c.diverging.new.input) = search rules in
     turned ∙ ap (valued sign e) behind ∙ ap (λ s. Some (s, c.diverging.new.input)) (sym c.local_init.ensures)

@@ -57,7 +57,7 @@ returns c =
     let read : parse_rule foreign_signature m ≡ Some (s, r) = search rules in
     let here : sees at_semicolon r ≡ true = search rules in
     let t = c.in_ok-function.function in
-    let q = c.behind_foreign_signature.new.input in
+    let q = c.after_foreign_signature.new.input in
     let made : wrap (foreign_function_of a v s) (take_mark semicolon r) ≡ Some (t, q) = search rules in
     let whole : (ts : Stream) → run_plan (foreign_function_or_kept a v) kept_foreign_item ts m ≡ Some (Node (Case foreign_function t), q) = λ ts. function_read kept_foreign_item ts a v m s r read here t q made in
     search (rules, whole)

@@ -26,4 +26,4 @@ returns-clause-reads c =
     let const_read : parse_form (optional_item_word w_const) m1 ≡ Some (k, m2) = search rules in
     let unsafe_read : parse_form (optional_item_word w_unsafe) m2 ≡ Some (u, m3) = search rules in
     let word_read : take_token (word w_impl) m3 ≡ Some (i, m4) = search rules in
-    definition_read IsSyntax (attributes_syntax c.args.attrs.items) d k u i m m1 m2 m3 m4 default_read const_read unsafe_read word_read c.behind_impl.result c.behind_impl.new.input c.behind_impl.ensures.reads
+    definition_read IsSyntax (attributes_syntax c.args.attrs.items) d k u i m m1 m2 m3 m4 default_read const_read unsafe_read word_read c.after_impl.result c.after_impl.new.input c.after_impl.ensures.reads

@@ -10,7 +10,7 @@ use Rattle.syn_lower.specs.Attributes.{attributes_syntax}
 use Rattle.syn_lower.specs.Parsing.{IsSyntax}
 use Rattle.syn_tree.specs.Derive.{enumeration_form, item_of, structure_form, union_form}
 use Rattle.syn_tree.specs.Restriction.{syntax_of_Visibility}
-use Rattle.syn_item.specs.ItemStages.{behind_place, place_of}
+use Rattle.syn_item.specs.ItemStages.{after_place, place_of}
 use Rattle.syn_item.specs.Items.{syntax_of_Item}
 use Rattle.syn_item.specs.Planned.{Follows}
 use Rattle.syn_item.proofs.ItemPlans.{enum_read, mod_read, others_follow, struct_read, union_read}
@@ -23,10 +23,10 @@ returns-then-peek c =
     let v = syntax_of_Visibility c.args.begun.vis in
     let m = c.args.input.now in
     let t = c.in_ok-item.item in
-    let r = c.struct_behind.new.input in
+    let r = c.struct_after_visibility.new.input in
     let here : sees (at_word w_struct) m ≡ true = search rules in
     let made : wrap (item_of a v) (parse_form structure_form m) ≡ Some (t, r) = search rules in
-    let read : (ts : Stream) → run_plan (behind_place c.args.begun) kept_item ts m ≡ Some (Node (Case structure t), r) = λ ts. struct_read kept_item ts p a v m here t r made in
+    let read : (ts : Stream) → run_plan (after_place c.args.begun) kept_item ts m ≡ Some (Node (Case structure t), r) = λ ts. struct_read kept_item ts p a v m here t r made in
     search (rules, read)
 
 pub returns-then-peek-2 : goal.returns-then-peek-2
@@ -36,11 +36,11 @@ returns-then-peek-2 c =
     let v = syntax_of_Visibility c.args.begun.vis in
     let m = c.args.input.now in
     let t = c.in_ok-item-2.item in
-    let r = c.enum_behind.new.input in
+    let r = c.enum_after_visibility.new.input in
     let no_struct : sees (at_word w_struct) m ≡ false = search rules in
     let here : sees (at_word w_enum) m ≡ true = search rules in
     let made : wrap (item_of a v) (parse_form enumeration_form m) ≡ Some (t, r) = search rules in
-    let read : (ts : Stream) → run_plan (behind_place c.args.begun) kept_item ts m ≡ Some (Node (Case enumeration t), r) = λ ts. enum_read kept_item ts p a v m no_struct here t r made in
+    let read : (ts : Stream) → run_plan (after_place c.args.begun) kept_item ts m ≡ Some (Node (Case enumeration t), r) = λ ts. enum_read kept_item ts p a v m no_struct here t r made in
     search (rules, read)
 
 pub returns-then-at_union : goal.returns-then-at_union
@@ -50,12 +50,12 @@ returns-then-at_union c =
     let v = syntax_of_Visibility c.args.begun.vis in
     let m = c.args.input.now in
     let t = c.in_ok-item-3.item in
-    let r = c.union_behind.new.input in
+    let r = c.union_after_visibility.new.input in
     let no_struct : sees (at_word w_struct) m ≡ false = search rules in
     let no_enum : sees (at_word w_enum) m ≡ false = search rules in
     let here : sees (at_word w_union and_also ahead Begins_item) m ≡ true = search rules in
     let made : wrap (item_of a v) (parse_form union_form m) ≡ Some (t, r) = search rules in
-    let read : (ts : Stream) → run_plan (behind_place c.args.begun) kept_item ts m ≡ Some (Node (Case union_item t), r) = λ ts. union_read kept_item ts p a v m no_struct no_enum here t r made in
+    let read : (ts : Stream) → run_plan (after_place c.args.begun) kept_item ts m ≡ Some (Node (Case union_item t), r) = λ ts. union_read kept_item ts p a v m no_struct no_enum here t r made in
     search (rules, read)
 
 pub returns-then-peek-6 : goal.returns-then-peek-6
@@ -86,6 +86,6 @@ returns c =
     let no_static : sees (at_word w_static) m ≡ false = search rules in
     let no_use : sees (at_word w_use) m ≡ false = search rules in
     let no_mod : sees (at_word w_mod) m ≡ false = search rules in
-    let follows : (ts : Stream) → Follows IsSyntax syntax_of_Item kept_item ts (run_plan (behind_place c.args.begun) kept_item ts m) c.other_kinds.result c.other_kinds.new.input =
+    let follows : (ts : Stream) → Follows IsSyntax syntax_of_Item kept_item ts (run_plan (after_place c.args.begun) kept_item ts m) c.other_kinds.result c.other_kinds.new.input =
     λ ts. others_follow kept_item ts p a v m no_struct no_enum no_union IsSyntax syntax_of_Item c.other_kinds.result c.other_kinds.new.input no_type no_static no_use no_mod (c.other_kinds.ensures.follows ts) in
     search (rules, follows)

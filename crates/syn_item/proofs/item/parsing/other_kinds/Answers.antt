@@ -39,8 +39,8 @@ returns-then-peek-3 c =
     let no_macro : sees (at_word w_macro) m ≡ false = search rules in
     let no_function : sees (at_word w_fn or_else at_word w_async) m ≡ false = search rules in
     let here : sees at_extern m ≡ true = search rules in
-    let follows : (ts : Stream) → Follows IsSyntax syntax_of_Item kept_item ts (run_plan (other_kinds_plan c.args.begun) kept_item ts m) c.behind_extern.result c.behind_extern.new.input =
-    λ ts. extern_follows kept_item ts p a v m IsSyntax syntax_of_Item c.behind_extern.result c.behind_extern.new.input no_trait no_auto no_macro no_function here (c.behind_extern.ensures.follows ts) in
+    let follows : (ts : Stream) → Follows IsSyntax syntax_of_Item kept_item ts (run_plan (other_kinds_plan c.args.begun) kept_item ts m) c.after_extern.result c.after_extern.new.input =
+    λ ts. extern_follows kept_item ts p a v m IsSyntax syntax_of_Item c.after_extern.result c.after_extern.new.input no_trait no_auto no_macro no_function here (c.after_extern.ensures.follows ts) in
     search (rules, follows)
 
 pub returns-then-peek-4 : goal.returns-then-peek-4
@@ -55,8 +55,8 @@ returns-then-peek-4 c =
     let no_function : sees (at_word w_fn or_else at_word w_async) m ≡ false = search rules in
     let no_extern : sees at_extern m ≡ false = search rules in
     let here : sees (at_word w_unsafe) m ≡ true = search rules in
-    let follows : (ts : Stream) → Follows IsSyntax syntax_of_Item kept_item ts (run_plan (other_kinds_plan c.args.begun) kept_item ts m) c.behind_unsafe.result c.behind_unsafe.new.input =
-    λ ts. unsafe_follows kept_item ts p a v m IsSyntax syntax_of_Item c.behind_unsafe.result c.behind_unsafe.new.input no_trait no_auto no_macro no_function no_extern here (c.behind_unsafe.ensures.follows ts) in
+    let follows : (ts : Stream) → Follows IsSyntax syntax_of_Item kept_item ts (run_plan (other_kinds_plan c.args.begun) kept_item ts m) c.after_unsafe.result c.after_unsafe.new.input =
+    λ ts. unsafe_follows kept_item ts p a v m IsSyntax syntax_of_Item c.after_unsafe.result c.after_unsafe.new.input no_trait no_auto no_macro no_function no_extern here (c.after_unsafe.ensures.follows ts) in
     search (rules, follows)
 
 pub returns-then-peek-5 : goal.returns-then-peek-5

@@ -9,4 +9,4 @@ use Rattle.syn_item.proofs.traits.parsing.trait_function.Goals as goal
 pub returns-clause-reads : goal.returns-clause-reads
 returns-clause-reads c =
     let read : parse_rule signature c.args.input.now ≡ Some (c.in_ok-sig.sig, c.read.new.self) = search rules in
-    bare_read IsSyntax (attributes_syntax c.args.attrs.items) c.args.input.now c.in_ok-sig.sig c.read.new.self read c.behind_trait_signature.result c.behind_trait_signature.new.input c.behind_trait_signature.ensures.reads
+    bare_read IsSyntax (attributes_syntax c.args.attrs.items) c.args.input.now c.in_ok-sig.sig c.read.new.self read c.after_trait_signature.result c.after_trait_signature.new.input c.after_trait_signature.ensures.reads

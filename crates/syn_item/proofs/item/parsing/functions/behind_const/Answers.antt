@@ -47,8 +47,8 @@ returns-then-is_before_auto c =
     let no_unsafe : sees (at_word w_unsafe) (past m) ≡ false = search rules in
     let no_trait : sees (at_word w_trait) (past m) ≡ false = search rules in
     let here : and (sees (at_word w_auto) (past m)) (sees (at_word w_trait) (past (past m))) ≡ true = search rules in
-    let follows : (ts : Stream) → Follows IsSyntax syntax_of_Item kept_item ts (run_plan (const_turn p a v) kept_item ts m) c.trait_behind.result c.trait_behind.new.input =
-    λ ts. auto_follows kept_item ts p a v m IsSyntax syntax_of_Item c.trait_behind.result c.trait_behind.new.input no_unsafe no_trait next k r const_read here (c.trait_behind.ensures.follows ts) in
+    let follows : (ts : Stream) → Follows IsSyntax syntax_of_Item kept_item ts (run_plan (const_turn p a v) kept_item ts m) c.trait_after.result c.trait_after.new.input =
+    λ ts. auto_follows kept_item ts p a v m IsSyntax syntax_of_Item c.trait_after.result c.trait_after.new.input no_unsafe no_trait next k r const_read here (c.trait_after.ensures.follows ts) in
     search (rules, follows)
 
 pub returns-then-peek2-3 : goal.returns-then-peek2-3

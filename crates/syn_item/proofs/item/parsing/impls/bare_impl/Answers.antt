@@ -42,6 +42,6 @@ returns c =
     let word_read : take_token (word w_impl) m ≡ Some (w, r) = search rules in
     let no_restriction : sees at_in_restriction r ≡ false = search rules in
     let no_lone : sees at_lone_word r ≡ false = search rules in
-    let follows : (ts : Stream) → Follows IsSyntax syntax_of_Item kept_item ts (run_plan (bare_impl_plan p a) kept_item ts m) c.behind_marks.result c.behind_marks.new.input =
-    λ ts. generics_follow kept_item ts p a m alone w r word_read no_restriction IsSyntax syntax_of_Item c.behind_marks.result c.behind_marks.new.input no_lone (c.behind_marks.ensures.follows ts) in
+    let follows : (ts : Stream) → Follows IsSyntax syntax_of_Item kept_item ts (run_plan (bare_impl_plan p a) kept_item ts m) c.after_marks.result c.after_marks.new.input =
+    λ ts. generics_follow kept_item ts p a m alone w r word_read no_restriction IsSyntax syntax_of_Item c.after_marks.result c.after_marks.new.input no_lone (c.after_marks.ensures.follows ts) in
     search (rules, follows)

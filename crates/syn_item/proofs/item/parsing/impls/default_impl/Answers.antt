@@ -55,6 +55,6 @@ returns c =
     let w = impl_syntax c.in_ok-read-4.field-0 in
     let z = c.read-4.new.self in
     let word_read : take_token (word w_impl) n ≡ Some (w, z) = search rules in
-    let follows : (ts : Stream) → Follows IsSyntax syntax_of_Item kept_item ts (run_plan (default_impl_turn a) kept_item ts m) c.behind_marks.result c.behind_marks.new.input =
-    λ ts. default_follows kept_item ts a m here d r default_read k q const_read u n unsafe_read IsSyntax syntax_of_Item c.behind_marks.result c.behind_marks.new.input w z word_read (c.behind_marks.ensures.follows ts) in
+    let follows : (ts : Stream) → Follows IsSyntax syntax_of_Item kept_item ts (run_plan (default_impl_turn a) kept_item ts m) c.after_marks.result c.after_marks.new.input =
+    λ ts. default_follows kept_item ts a m here d r default_read k q const_read u n unsafe_read IsSyntax syntax_of_Item c.after_marks.result c.after_marks.new.input w z word_read (c.after_marks.ensures.follows ts) in
     search (rules, follows)

@@ -64,7 +64,7 @@ returns c =
     let no_colon : sees at_colon q ≡ false = search rules in
     let ahead : equals_ahead (parse_rule where_clause q) ≡ true = search rules in
     let x = c.in_ok-item.item in
-    let r = c.type_behind_head.new.input in
+    let r = c.type_after_head.new.input in
     let made : wrap (alias_syntax a v t n g) (parse_form alias_end_form q) ≡ Some (x, r) = search rules in
     let read : (ts : Stream) → run_plan (type_plan a v) kept_item ts m ≡ Some (Node (Case type_item x), r) = λ ts. alias_read kept_item ts a v m t n g q head no_colon ahead x r made in
     search (rules, read)

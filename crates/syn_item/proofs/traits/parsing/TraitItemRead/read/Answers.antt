@@ -13,7 +13,7 @@ returns-in-Ok-Some-clause-reads c =
     let m = c.outer_attributes.new.input in
     let outer : parse_rule attributes ts ≡ Some (a, m) = search rules in
     let told = rw c.in-Ok-Some.field-0-is at (c.in-Ok-Some.ensures.follows ts) in
-    trait_read ts a m outer (syntax_of_TraitItem c.in-Ok-Some.member) c.trait_item_behind.new.input told
+    trait_read ts a m outer (syntax_of_TraitItem c.in-Ok-Some.member) c.trait_item_after.new.input told
 
 pub returns-in-Ok-Some-clause-moved : goal.returns-in-Ok-Some-clause-moved
 returns-in-Ok-Some-clause-moved c =
@@ -22,7 +22,7 @@ returns-in-Ok-Some-clause-moved c =
     let m = c.outer_attributes.new.input in
     let outer : parse_rule attributes ts ≡ Some (a, m) = search rules in
     let told = rw c.in-Ok-Some.field-0-is at (c.in-Ok-Some.ensures.follows ts) in
-    trait_moved ts a m outer (syntax_of_TraitItem c.in-Ok-Some.member) c.trait_item_behind.new.input told
+    trait_moved ts a m outer (syntax_of_TraitItem c.in-Ok-Some.member) c.trait_item_after.new.input told
 
 pub returns-in_ok-kept_tokens-in-Ok-None-clause-reads : goal.returns-in_ok-kept_tokens-in-Ok-None-clause-reads
 returns-in_ok-kept_tokens-in-Ok-None-clause-reads c =
