@@ -28,7 +28,7 @@ import tempfile
 from pathlib import Path
 
 from editlib import rooms
-from editlib.edits import edits_of
+from editlib.edits import Source
 
 TOP = Path(__file__).resolve().parent.parent
 # how many bodies one check judges, and after how many seconds it is halved
@@ -87,7 +87,7 @@ def symbols_of(folder):
     """The names of a crate's functions as the prover has them, each taken as proved."""
     uses = rooms.listed(TOP)
     lower = [folder.parent / it for it in rooms.below(folder.name, uses)]
-    names = edits_of(folder, lower, [])[0].names()
+    names = Source(folder, lower).names()
     return {it if it.startswith(f"{folder.name}::") else f"{folder.name}::{it}": "proved" for it in names}
 
 

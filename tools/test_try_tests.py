@@ -125,14 +125,14 @@ class Choice(Trial):
 
     def test_the_copy_has_the_sources_alone(self):
         self.write("crates/low/out/kept", "")
-        self.write("crates/low/edits/a.edit", "")
+        self.write("crates/low/edits.toml", "")
         self.write("HANDLES", "Handles allowed: none.\n")
         room = self.top / "room"
         room.mkdir()
         try_tests.copied(self.top, room)
         found = {str(path.relative_to(room)) for path in room.rglob("*") if path.is_file()}
         self.assertLessEqual({"crates.txt", "HANDLES", "crates/low/src/lib.rt", "crates/program/stdin"}, found)
-        self.assertFalse([name for name in found if "/out/" in name or "/edits/" in name])
+        self.assertFalse([name for name in found if "/out/" in name or name.endswith("/edits.toml")])
 
     def test_the_whole_script(self):
         script = self.write("rt", f'if [ "$3" = --test ]; then cat {self.write("log", PASSED + ENDED)}; else wc -l; {Programs.END.strip()}; fi\n')

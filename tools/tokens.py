@@ -1,6 +1,6 @@
 #!/usr/bin/env python3
 """Writes the kinds of words and marks of crates/syn_tokens: src/token.rt, src/token/kind.rt,
-src/token/kind/*.rt, specs/Kinds*.antt; and for each kind the wrong bodies edits/text_of_*.edit and edits/fault_of_*.edit.
+src/token/kind/*.rt, specs/Kinds*.antt.
 
 Run it at the top of the repository, and commit what it writes. With --check it writes nothing, and fails if a file differs
 from what it would write."""
@@ -297,36 +297,6 @@ def antt_name(name):
     return "«Type»" if name == "Type" else name
 
 
-def wrong_body(file, function, right, wrong):
-    """An edit that makes a function of a kind return something else."""
-    return f"""clause: returns
-file: src/token/kind/{file}.rt
-in: token::kind::{file}::{function}
-old: {right}
-new: {wrong}
-"""
-
-
-def wrong_bodies(file, kinds, impl, value_of):
-    """For each kind, an edit of its text and one of its error message: those of the next kind."""
-    for (name, text), (_, other) in zip(kinds, kinds[1:] + kinds[:1]):
-        (right, function), (wrong, _) = value_of(text), value_of(other)
-        yield f"text_of_{snake(name)}", wrong_body(file, f"{name}{impl}::{function}", right, wrong)
-        yield f"fault_of_{snake(name)}", wrong_body(file, f"{name}{impl}::expected", f'"expected `{text}`"', f'"expected `{other}`"')
-
-
-def edits():
-    """The wrong bodies of all words and marks."""
-    found = []
-    for file, _, kinds in WORD_FILES:
-        pairs = [(name, text) for name, text, _ in kinds]
-        found += wrong_bodies(file, pairs, "WordKind", lambda text: (f'"{text}"', "text"))
-    for file, kinds in (("marks", MARKS), ("long_marks", LONG_MARKS)):
-        for length, trait in TRAITS.items():
-            found += wrong_bodies(file, [it for it in kinds if len(it[1]) == length], trait, characters)
-    return {CRATE / "edits" / f"{name}.edit": text for name, text in found}
-
-
 def outputs():
     """The text of each file that this script writes."""
     kind = CRATE / "src/token/kind"
@@ -339,7 +309,7 @@ def outputs():
     files[CRATE / "specs/KindsOfWords.antt"] = word_specs()
     files[CRATE / "specs/KindsOfMarks.antt"] = mark_specs()
     files[CRATE / "specs/Kinds.antt"] = group_specs()
-    return {**files, **edits()}
+    return files
 
 
 def main():

@@ -34,7 +34,7 @@ COMMAND = ["rt", "try"]
 SECONDS, WITH_BUILD = 300, 4
 # The tests that pass even if one request for memory is refused are in modules of this name.
 MODULE = "scarce_memory"
-NOT_COPIED = ("out", "edits", "must-fail")
+NOT_COPIED = ("out", "edits.toml", "must-fail")
 TEST = re.compile(r"(?m)^test (\S+) \.\.\. (ok|FAILED)$")
 COUNT = re.compile(r"(?m)^tests: (\d+)$")
 ENDED = re.compile(r"(?m)^run=ended status=(\d+) .*proved=no\s*\Z")

@@ -1,14 +1,4 @@
-"""Edits: files of lines `file:`, `old:` and `new:`, as the kit's must-fail edits have them, and of two kinds of lines more.
-
-    clause: reads
-    file: src/buffer/leaves.rt
-    in: buffer::ParseBuffer::read_name
-    old: one text, which stands once in that function, or in the file where no line `in:` stands
-    new: what takes its place, in one line
-
-Further pairs apply to what the earlier ones made. The kit passes over lines that it doesn't know, so an edit of must-fail/
-has `clause:` too, but no `in:`.
-"""
+"""Edits: changed texts of a crate, the functions that they change, and packs of edits that are tried together."""
 
 import os
 from dataclasses import dataclass, field
@@ -33,7 +23,10 @@ class Change:
 
 @dataclass
 class Edit:
+    """The changes of one wrong body, the file that has it, and the clauses that it breaks."""
+
     path: Path
+    name: str
     clauses: list
     changes: list
     functions: set = field(default_factory=set)
@@ -41,35 +34,9 @@ class Edit:
     is_outside: bool = False
 
     @property
-    def name(self):
-        return self.path.stem
-
-
-def read(path):
-    """The edit of a file."""
-    clauses, changes, said = [], [], {}
-    for line in path.read_text().split("\n"):
-        word, _, rest = line.partition(":")
-        rest = rest.removeprefix(" ")
-        if word == "clause":
-            clauses.append(rest)
-        elif word == "file":
-            said = {"file": rest}
-        elif word in ("in", "old"):
-            said[word] = rest
-        elif word == "new":
-            if not said.get("file") or not said.get("old"):
-                raise Unfit("a line new: has no file: or old: above it")
-            changes.append(Change(said["file"], said.get("in"), said.pop("old"), rest))
-    if not changes:
-        raise Unfit("it changes nothing")
-    return Edit(path, clauses, changes)
-
-
-def with_clauses(text, clauses):
-    """The text of an edit that names these clauses and no others."""
-    rest = [line for line in text.split("\n") if not line.startswith("clause: ")]
-    return "\n".join([*(f"clause: {clause}" for clause in clauses), *rest])
+    def is_of_kit(self):
+        """Whether `rt ci` itself tries it."""
+        return self.path.parent.name == "must-fail"
 
 
 class Source:
@@ -90,7 +57,7 @@ class Source:
         return self.kept[path]
 
     def place(self, text, change):
-        """Where in this text the change's old text stands, once. No edit changes how many lines a file has."""
+        """Where in this text the change's old text is, once."""
         start, end = 0, len(text)
         if change.function:
             here = [it for it in self.functions.get(change.path, []) if it.name == change.function]
@@ -101,7 +68,7 @@ class Source:
             end = start + sum(len(line) + 1 for line in lines[here[0].first : here[0].last + 1])
         found = text.count(change.old, start, end)
         if found != 1:
-            raise Unfit(f"its text stands {found} times in {change.function or change.path}, and not once: {change.old.strip()}")
+            raise Unfit(f"its text occurs {found} times in {change.function or change.path}, and not once: {change.old.strip()}")
         return text.index(change.old, start, end)
 
     def function_at(self, path, line, column):
@@ -158,23 +125,28 @@ class Source:
             function = self.function_at(change.path, text.count("\n", 0, at), at - text.rfind("\n", 0, at) - 1)
             functions |= {f"{self.name}::{function}"} if function else set()
             is_outside |= not function
-            texts[change.path] = text[:start] + change.new + text[start + len(change.old) :]
+            texts[change.path] = text[:start] + padded(change) + text[start + len(change.old) :]
         return texts, functions, is_outside
 
 
-def edits_of(crate, lower=(), names=()):
-    """The files of a crate, its edits by their names, and why each of the others can't be applied."""
-    source, found, unfit = Source(crate, lower), [], []
-    for path in sorted([*crate.glob("edits/*.edit"), *crate.glob("must-fail/*.edit")], key=lambda path: path.name):
-        if names and path.stem not in names:
-            continue
+def padded(change):
+    """The new text with as many lines as the old one, since no change moves the functions after it."""
+    more = change.old.count("\n") - change.new.count("\n")
+    if more < 0:
+        raise Unfit(f"its new text has more lines than the old one: {change.new.strip()}")
+    return change.new + "\n" * more
+
+
+def applying(source, edits):
+    """Those of the edits that can be applied, with the functions that they change, and of each other one its name and why not."""
+    found, unfit = [], []
+    for edit in edits:
         try:
-            edit = read(path)
             _, edit.functions, edit.is_outside = source.applied({}, edit)
             found.append(edit)
         except Unfit as why:
-            unfit.append((path, str(why)))
-    return source, found, unfit
+            unfit.append((edit.name, str(why)))
+    return found, unfit
 
 
 @dataclass

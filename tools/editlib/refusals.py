@@ -17,6 +17,8 @@ PROOF = re.compile(r"proofs/(.*)/(?:Answers|Invariants|Proof)\.antt")
 UNREAD = re.compile(r"is not in scope|has no field|is no name|operand is missing|expected the end|cannot continue")
 # a proof file that names what is gone
 GONE = re.compile(r"is not in scope|has no field|has no `|was not admitted")
+# goals that say nothing of the contract: a sum in range, an index, a slice, a cast, a divisor
+SAFETY = re.compile(r"(?:overflow|bounds|slice|index|cast|divisor|division|shift)(?:_|-|$)")
 
 
 @dataclass
@@ -89,6 +91,11 @@ def told_of_error(answer, crate, changed, error):
     elif not is_gone:
         refused, it = (told.goals, goal[1]) if told else (answer.lemmas, (path.rpartition("/")[2].removesuffix(".antt"), goal[1]))
         refused += [it] * (it not in refused)
+
+
+def is_of_safety(goal):
+    """Whether a goal says only that an index or a sum is in range."""
+    return bool(SAFETY.match(goal))
 
 
 def clause_of(goal, only):
