@@ -1,6 +1,6 @@
 #!/usr/bin/env python3
-"""Writes docs/CLAIMS.md from tools/claims.txt: for each crate what is proved, with the clause that states it, what is only tested,
-and what is neither.
+"""Writes docs/reference/CLAIMS.md from tools/claims.txt: crate by crate what is proved, with the clause that carries it, what is only
+tested, and what is neither.
 
     tools/claims.py            writes the page
     tools/claims.py --check    writes nothing, and fails where the page isn't as it would be written
@@ -25,7 +25,7 @@ from pathlib import Path
 from claimslib import functions, implementors
 
 SOURCE = Path("tools/claims.txt")
-PAGE = Path("docs/CLAIMS.md")
+PAGE = Path("docs/reference/CLAIMS.md")
 
 
 class Row:

@@ -1,22 +1,22 @@
 #!/usr/bin/env python3
-"""Compares the results of the tree parsers with those of the recognizer, on texts with known results, rows and random texts.
+"""Compares the results of trees with those of recognition, on texts with known answers, rows and random texts.
 
     tools/compare_answers.py [--stage N] [--count N] [--seed N] [--every] [--conformance FILE] [--oracle FOLDER] [--bin PROGRAM]
 
-The program `tree_answers` (see its src/main.rt) parses each text as some of the program's kinds, both ways: its print, whether it has one,
-and whether it has the form of its print and of the text before it. The results, and the bytes at which a text is refused, must be
-equal. The texts are
+The program `tree_answers` (see its src/main.rt) parses each text as kinds of the program in both ways, and compares the prints, whether
+there is a print, and whether the text has the form of its print and of the text before it. The results, and the bytes of parse errors,
+have to be the same. The texts are
 
-- those of the conformance cases, each as the kinds that its cases name;
-- both lines of each row of `check_rows`: texts to be compared are adjacent;
-- --count random ones, by the generator of the oracle: derivations of each kind of the stage, each followed by the same with a few tokens
-  changed, both as that kind.
+- those of the conformance cases, in the file beside the repository, each as the kinds that its cases name;
+- both lines of each row of `check_rows`, so that texts to be compared follow each other;
+- --count random ones, by the generator of the independent reader beside the repository: derivations of each kind that is built at the
+  stage, each followed by itself with a few tokens changed, both as that kind.
 
-Each is also parsed as a few other kinds, drawn by --seed; with --every as each kind. In a trial build, which checks memory as well, a
-text takes some 6 ms of a processor for each kind.
+Each is also parsed as a few other kinds, which --seed selects, and with --every as each kind. A text takes some 6 ms of a processor
+for each kind in a trial build, which checks memory accesses as well.
 
-The conformance cases and the oracle are beside the repository; where they are missing, a line says so. The program is a trial build of a
-copy of the sources, or PROGRAM. The status is 0 if nothing differs, 1 if something does, and 2 if the program failed.
+What is missing beside the repository is left out, and named. The program is built by a trial build, in a copy of the sources, or is
+PROGRAM. The status is 0 if nothing differs, 1 if something does, and 2 if the program did not end.
 """
 import argparse
 import importlib
@@ -38,31 +38,31 @@ ROWS = TOP / "crates/check_rows/stdin"
 CONFORMANCE = TOP.parent / "shared/conformance/shared.jsonl"
 ORACLE = TOP.parent / "shared/oracle"
 CRATE = "tree_answers"
-# The stage of the grammar, if the call names none.
+# How much of the grammar is built, by default.
 STAGE = 15
 # A trial takes at most a MiB of input.
 CHUNK = 1_000_000
-# The words of all kinds, and the number of other kinds as which each text is parsed.
+# The words of all kinds, and the number of other kinds of each text.
 WORDS = [word for word, _, _ in KINDS]
 OTHERS = 2
-# The limit of a run, without its build: in ./test it waits for others.
+# How long a run may take without its build, on a busy machine.
 SECONDS = 9000
 # The length of the longest random text.
 LONGEST = 4000
-# How many differences are shown, three lines each.
+# How many differences are shown, of three lines each.
 SHOWN = 20
 ESCAPES = {"n": "\n", "t": "\t", "s": " ", "\\": "\\", "e": ""}
 COUNT = re.compile(r"(\d+) ([a-z ]+)")
 
 
 def live_cases(path, stage):
-    """The cases that hold at the stage, and are text."""
+    """The cases of the stage that are text."""
     cases = map(json.loads, path.read_text(encoding="utf-8").splitlines())
     return [case for case in cases if "stdin" in case and case["stage"] <= stage and (case["until"] is None or stage <= case["until"])]
 
 
 def conformance_texts(path, stage):
-    """The inputs of the cases that hold at the stage; each once, with the kinds that the cases name."""
+    """The input of each case of the stage, once, with the kinds that its cases name."""
     texts = {}
     for case in live_cases(path, stage):
         texts.setdefault(case["stdin"], []).append(kind_of(case["args"]))
@@ -70,7 +70,7 @@ def conformance_texts(path, stage):
 
 
 def kind_of(words):
-    """The kind as which the program parses a text when called with these words: `list` parses a file."""
+    """The kind as which the program parses a text, if it is run with these words; `list` reads a file."""
     return words[1] if len(words) == 2 and words[1] in WORDS else "file"
 
 
@@ -83,13 +83,13 @@ def row_sections(path):
 
 
 def row_texts(path):
-    """The texts of the rows, without kinds."""
+    """The texts of the rows, without a kind."""
     for _, texts in row_sections(path):
         yield from ((text, []) for text in texts)
 
 
 def random_texts(folder, stage, count, seed):
-    """Derivations of each kind, each followed by the same changed, with that kind."""
+    """Derivations of each kind, each followed by a changed copy, with that kind."""
     sys.path.insert(0, str(folder))
     gen, oracle, mkrender = (importlib.import_module(name) for name in ("gen", "oracle", "mkrender"))
     made = gen.G(seed, stage)
@@ -106,7 +106,7 @@ def random_texts(folder, stage, count, seed):
 
 
 def asked_as(texts, seed, every):
-    """The texts, each with the words of the kinds as which it is parsed; none means all. Two adjacent texts have the same other kinds."""
+    """The texts, each with the words of its kinds, or none for all kinds. Each two texts that follow each other get the same other kinds."""
     dice = random.Random(seed)
     for number, (text, words) in enumerate(texts):
         if number % 2 == 0:
@@ -115,7 +115,7 @@ def asked_as(texts, seed, every):
 
 
 def packed(lines, size=CHUNK):
-    """The lines in packs, each as large as one run takes."""
+    """The lines, in packs of the size of one run."""
     pack, length = [], 0
     for line in lines:
         if pack and length + len(line) > size:
@@ -128,12 +128,12 @@ def packed(lines, size=CHUNK):
 
 
 def chunks(texts, size=CHUNK):
-    """The lines of the texts in packs, each as large as one run takes."""
+    """The lines of the texts, in packs of the size of one run."""
     return packed((" ".join([text.encode().hex(), *words]) + "\n" for text, words in texts), size)
 
 
 def gathered(options):
-    """The texts, in the order of their sources, each with the kinds as which it is parsed."""
+    """The texts, in the order of their sources, each with its kinds."""
     texts = []
     if there(options.conformance, "the conformance cases"):
         texts += conformance_texts(options.conformance, options.stage)
@@ -144,7 +144,7 @@ def gathered(options):
 
 
 def there(path, name):
-    """Whether the file exists; else a line says what is left out."""
+    """Whether the file exists; if not, prints what is left out."""
     if not path.is_file():
         print(f"left out: {name}; {path} isn't there")
     return path.is_file()
@@ -157,14 +157,14 @@ def asked(program, inputs):
 
 
 def tried(inputs, crate=CRATE):
-    """The same of one trial build of the crate."""
+    """The same, by one trial build of the crate."""
     with tempfile.TemporaryDirectory(prefix="compare_answers-") as folder:
         room = Path(folder)
         try_tests.copied(TOP, room)
         (room / "cases").mkdir()
         for number, text in enumerate(inputs):
             (room / f"cases/{number:04}").write_text(text)
-        # the steps limit the interpreter, which wouldn't finish; the compiled program does
+        # the interpreter stops after these steps; the result is that of the compiled program
         words = ["--steps", "1000", "--cases", str(room / "cases")]
         wrote, said, _ = try_tests.called(words, room / "crates" / crate, SECONDS)
     statuses = re.findall(r"(?m)^case=\d+ run=ended status=(\d+) ", said)

@@ -1,34 +1,33 @@
 #!/usr/bin/env python3
-"""Parses streams and texts that are cut short or changed, and compares the results with those of the oracle.
+"""Compares what is parsed of streams and texts that are cut short or changed with an independent reader of the grammar.
 
     tools/cuts.py streams [--bin PROGRAM]           by the program `cut_streams`, built by trial, or PROGRAM
-    tools/cuts.py texts [--bin PROGRAM] [--jobs N]  by `syn_canon` as `rt ci` or `./run --prove` builds it, or PROGRAM
-    --part I/N                                      the I-th of N parts of the texts
+    tools/cuts.py texts [--bin PROGRAM] [--jobs N]  by `syn_canon` as `./prove` has built it, or PROGRAM
+    --part I/N                                      part I of N parts of the texts
     --invisible I/N                                 the same for the streams with an invisible group
 
-Both begin with the texts that rows of `check_rows` and the conformance cases accept, each as its kind. From the tokens of each, `streams`
-makes
+Both begin with the texts that rows of `check_rows` and the conformance cases accept, each as its kind. From the tokens of each,
+`streams` makes
 
-- cuts: the first N tokens for each N, where the two delimiters of a group count as one token, and open groups are closed;
-- `@`: that character as the last tree of one group;
+- cuts: the first tokens, from none to all, with the open groups closed;
+- `@`: that mark as the last tree of one group;
 - delimiters: one group with another delimiter;
-- spacings: every punctuation character Joint, every one Alone, and one changed;
-- invisible: an invisible group around some adjacent trees, or an empty one.
+- spacings: every mark Joint, every mark Alone, and one mark with the other spacing;
+- invisible: some adjacent trees in an invisible group, or an empty one.
 
-The stream must be accepted or refused, and print, as by the oracle, and it must pass the checks that src/main.rt of the program makes of
-each stream. `texts` gives to the program
+The stream has to be accepted or refused, and printed, as the independent reader says; and the properties of each stream have to hold
+(see src/main.rt of the program). `texts` gives to the program
 
-- prefixes: the first N bytes of each text, for each N; it must end as the oracle says;
-- failing reads and writes: each text in pieces of a few bytes; the first call fails, then the second, until a run meets no failure.
-  A run that meets one must end with status 1 and `read failed` or `write failed`.
+- prefixes: the first bytes of each text, from none to all; it has to end as the independent reader says;
+- failing reads and writes: each text in pieces of a few bytes, with the first call failing, then the second, until a run has no failure.
+  A run with a failure has to end with status 1 and `read failed` or `write failed`.
 
-One difference is known, and counted separately: `< >` after `impl`, which only one of the two prints. And some streams with an invisible
-group are accepted by one of the two alone (`read here`, `refused here`), since `parse2` finds by parsing at which groups it is refused.
-Streams that both accept must print alike, unless a group splits a punctuation mark or an item is verbatim (`other print`). Of many
-streams at most 2 in 100 may differ so.
-The status is 0 if nothing else differs, 1 if something does, and 2 if nothing could be compared.
+One difference is known and counted: `< >` after `impl`, which only one of the two prints. Some streams with an invisible group are
+accepted by one of the two alone (`read here`, `refused here`), since `parse2` finds by parsing at which groups it refuses. What both
+accept has to print alike, except if a group splits a mark or an item is stored as tokens (`other print`); in a sweep of many streams
+at most 2 in 100 may differ so. The status is 0 if nothing else differs, 1 if something does, and 2 if nothing could be compared.
 
-The oracle and the cases are beside the repository. Without the cases, only rows are taken.
+The independent reader and the cases are beside the repository. Without the cases only rows are used.
 """
 import argparse
 import os
@@ -49,30 +48,30 @@ from cutlib.texts import beginnings, built_library, ended, failures, verdict
 TOP = Path(__file__).resolve().parent.parent
 CRATE = "cut_streams"
 PROGRAM = TOP / "crates/syn_canon/out/syn_canon"
-# How many differences are shown.
+# The number of differences that are shown.
 SHOWN = 30
-# Results that are no difference.
+# Results that are no differences.
 AGREED = ("ok", "refused", "empty generics", "read here", "refused here", "other print")
-# Results that streams with an invisible group may have; for at least so many streams, at most this share of them.
+# Results of streams with an invisible group that are limited in sweeps of this many streams, and the limit.
 APART, MANY, AT_MOST = ("read here", "refused here", "other print"), 1000, 0.02
-# The types with a verbatim variant.
+# The types that may be stored as tokens.
 KEPT = ("Item", "TraitItem", "ImplItem", "ForeignItem", "File")
 
 
 class Tally:
-    """The results of each sweep, and the differences."""
+    """The counts of each sweep, and the differences."""
 
     def __init__(self, sweeps):
         self.counts, self.differences = {sweep: Counter() for sweep in sweeps}, []
 
     def add(self, sweep, what, found):
-        """Counts a result: one of AGREED, or the difference in words."""
+        """Counts a result: one of AGREED, or an error message."""
         self.counts[sweep][found if found in AGREED else "differ"] += 1
         if found not in AGREED:
             self.differences.append(f"{sweep}, {what}: {found}")
 
     def told(self):
-        """The first differences, and a line of the counts."""
+        """The first differences, and a line with the counts."""
         parts = [f"{sweep} {counts.total()}: " + ", ".join(f"{counts[how]} {how}" for how in (*AGREED, "differ") if counts[how]) for sweep, counts in self.counts.items() if counts]
         return [*self.differences[:SHOWN], "; ".join([*parts, f"{len(self.differences)} differ"])]
 
@@ -94,7 +93,7 @@ def inputs_of(options, part):
 
 
 def changed_streams(inputs, sweeps, reading):
-    """The changed streams of the inputs: the sweep, the kind and the words. An input that the oracle refuses is an error."""
+    """The changed streams of the inputs: the sweep, the kind and the words. An input that the independent reader refuses is an error."""
     for each in inputs:
         words = reading.words(each.text)
         if words is None or reading.print(each.kind, words) is None:
@@ -108,7 +107,7 @@ def line_of(kind, words):
 
 
 def answers_of(lines, program):
-    """The program's result for each line. Its results for its own input must be those that are stored."""
+    """The result of the program for each line. Its results for its own input are compared with its file stdout."""
     folder = TOP / "crates" / CRATE
     stored = [(folder / name).read_text(encoding="utf-8") for name in ("stdin", "stdout")]
     inputs = [stored[0], *packed([line + "\n" for line in lines])]
@@ -122,7 +121,7 @@ def answers_of(lines, program):
 
 
 def judged(answer, print_of_other):
-    """Compares the program's result with the oracle's print, or its refusal."""
+    """Compares the result of the program with the print of the independent reader, or None."""
     word, _, rest = answer.partition(" ")
     if word == "refused" and print_of_other is None:
         return "refused"
@@ -135,7 +134,7 @@ def judged(answer, print_of_other):
 
 
 def judged_apart(answer, print_of_other, kind, words):
-    """The same of a stream with an invisible group, where one of the two may read what the other refuses."""
+    """The same for a stream with an invisible group, which one of the two may accept and the other refuse."""
     word = answer.partition(" ")[0]
     if word == "ok" and print_of_other is None:
         return "read here"
@@ -148,7 +147,7 @@ def judged_apart(answer, print_of_other, kind, words):
 
 
 def streams(options, reading):
-    """Compares the results for changed streams."""
+    """Compares the results of changed streams."""
     changed = [*changed_streams(inputs_of(options, options.part), SWEEPS, reading), *changed_streams(inputs_of(options, options.invisible), INVISIBLE, reading)]
     answers = answers_of(list(dict.fromkeys(line_of(kind, words) for _, kind, words in changed)), options.bin)
     tally, known = Tally((*SWEEPS, *INVISIBLE)), {}
@@ -163,7 +162,7 @@ def streams(options, reading):
 
 
 def too_many_apart(counts):
-    """The large sweeps of which too many streams are accepted by one of the two alone: each with that number and its size."""
+    """The sweeps in which too many results differ: the sweep, the number of these results, and the number of streams."""
     for sweep, found in counts.items():
         count = sum(found[how] for how in APART)
         if found.total() >= MANY and count > AT_MOST * found.total():
@@ -171,7 +170,7 @@ def too_many_apart(counts):
 
 
 def texts(options, reading):
-    """Compares how the program ends on beginnings of texts, and checks how it ends if a call fails."""
+    """Compares how the program ends on prefixes of texts, and checks how it ends if a call fails."""
     program, tally = options.bin or str(PROGRAM), Tally(("prefixes", "failing reads", "failing writes"))
     inputs = [each for each in inputs_of(options, options.part) if each.kind in WORDS]
     cut = list(dict.fromkeys((each.kind, data) for each in inputs for data in beginnings(each.text)))

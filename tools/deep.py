@@ -1,10 +1,10 @@
 #!/usr/bin/env python3
-"""Runs the built program on texts of every form that may stand in itself, so many levels deep, and fails where one isn't answered as it must
-be: by status 0, or 1 where a token is wrong at the innermost place; and where four times the levels take much more than four times as long.
+"""Runs the program on texts with deeply nested forms, and fails if one does not end as expected: with status 0, or with 1 if the innermost
+token is wrong; or if four times the levels take much more than four times as long.
 
-A form's text is, with as many levels as are asked for: what stands before, the opening of each level, the middle, the closing of each level,
-and what stands behind. Of each form a line is printed: its name, and the most seconds of processor that one of its runs took. Words may be
-given: then those forms alone are run whose names contain one of them.
+The text of a form is, with the given number of levels: the text before, the opening of each level, the middle, the closing of each level,
+and the text after. For each form a line is printed: its name, and the most seconds of processor that one of its runs took. If words are
+given, only the forms run whose names contain one of them.
 """
 
 import argparse
@@ -18,15 +18,15 @@ from dataclasses import dataclass
 from pathlib import Path
 
 TOP = Path(__file__).resolve().parent.parent
-# What is usual for a main thread.
+# The usual stack of a main thread.
 STACK = 8 << 20
-# Beyond this in place of the middle no form is read.
+# With this after the middle every form is refused.
 WRONG = " => "
 
 
 @dataclass(frozen=True)
 class Place:
-    """Where a form stands: a text of this kind, and what is around the form in it."""
+    """The context of a form: the kind of the text, and the text around the form."""
 
     kind: str
     before: str
@@ -54,7 +54,7 @@ USE = Place("item", "use ", ";")
 
 @dataclass(frozen=True)
 class Form:
-    """A form that may stand in itself. `raw`: what is inside is kept as tokens, so that no token is wrong there."""
+    """A form that can be nested in itself. `raw`: its content is stored as tokens, so that no token is wrong there."""
 
     name: str
     place: Place
@@ -214,7 +214,7 @@ FORMS = [
     Form("definitions by `macro`", ITEM, "macro m { ", "", " }", raw=True),
 ]
 
-# Delimiters that nothing closes.
+# Delimiters that are never closed.
 UNCLOSED = [
     Form("unclosed parentheses", EXPRESSION, "(", ""),
     Form("unclosed brackets", EXPRESSION, "[", ""),
@@ -226,12 +226,12 @@ UNCLOSED = [
 
 
 def limited():
-    """What the child has: the usual stack."""
+    """Gives the child the usual stack."""
     resource.setrlimit(resource.RLIMIT_STACK, (STACK, resource.getrlimit(resource.RLIMIT_STACK)[1]))
 
 
 def run(binary, task, kind, text, seconds):
-    """The program's status, and the seconds of processor that it took; no status where it took longer than that."""
+    """The status of the program, or None after a timeout, and its seconds of processor."""
     with tempfile.TemporaryFile() as given:
         given.write(text.encode())
         given.seek(0)
@@ -245,7 +245,7 @@ def run(binary, task, kind, text, seconds):
 
 
 def runs_of(form):
-    """What is done with a form: the task, what stands in the place of its middle, and the status that is wanted."""
+    """The runs of a form: the task, the text in place of its middle, and the expected status."""
     if form in UNCLOSED:
         return [("print", None, 1)]
     wrong = [] if form.raw else [("print", form.middle + WRONG, 1)]
@@ -253,7 +253,7 @@ def runs_of(form):
 
 
 def tried(form, options):
-    """The most seconds that a run of the form took, and what was wrong."""
+    """The most seconds that a run of the form took, and its errors."""
     most, faults = 0.0, []
     for task, middle, wanted in runs_of(form):
         took = []
@@ -261,7 +261,7 @@ def tried(form, options):
             status, seconds = run(options.bin, task, form.place.kind, form.text(levels, middle), options.seconds)
             took.append(seconds)
             if status != wanted:
-                faults.append(f"{task}, {levels} levels: status {status} in place of {wanted}" + ("" if middle is None else ", with a wrong token"))
+                faults.append(f"{task}, {levels} levels: status {status} instead of {wanted}" + ("" if middle is None else ", with a wrong token"))
         few, many = took
         if many > options.growth * few + options.noise:
             faults.append(f"{task}: {few:.2f} s for {options.levels // 4} levels, {many:.2f} s for {options.levels}")

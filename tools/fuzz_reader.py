@@ -1,16 +1,16 @@
 #!/usr/bin/env python3
-"""Compares the reader of text with an independent reading of the same rules, on random texts.
+"""Compares the reader of text with an independent reader of the same rules, on random texts.
 
     tools/fuzz_reader.py [--count N] [--seed N] [--bin PROGRAM] [--oracle FOLDER] [--show N]
 
-The texts are made of what a lexer goes wrong at: quotes, hashes, backslashes, the letters that stand before literals,
-points and exponents, comment signs, characters of several bytes, line ends, NUL, groups. For each text the program
-`token_lines` (`rt run` in crates/token_lines builds it) and the other reading have to give the same line: every token with
-its kind, span, text and spacing, and the token text; or the byte and the words of the refusal. Each difference is cut down
-to a smaller text first. The status is 0 where there is none, 1 where there is one, and 2 where nothing could be compared.
+The texts are made of what lexers get wrong: quotes, hashes, backslashes, the letters before literals, points and exponents, comment
+signs, characters of several bytes, line ends, NUL, groups. For each text the program `token_lines` (`rt run` in crates/token_lines builds
+it) and the independent reader have to give the same line: every token with its kind, span, text and spacing, and the token text; or the
+byte and the message of the refusal. Each difference is reduced to a smaller text first. The status is 0 if there is none, 1 if there is
+one, and 2 if nothing could be compared.
 
-This repository keeps no copy of the other reading: FOLDER holds its module `oracle.py`, with `read_tokens(text)` and
-`token_text(trees)`; where nothing else is said it is ../shared/oracle beside the repository.
+The independent reader is not part of this repository: FOLDER has its module `oracle.py`, with `read_tokens(text)` and
+`token_text(trees)`; the default is ../shared/oracle beside the repository.
 """
 import argparse
 import importlib.util

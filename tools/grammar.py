@@ -8,7 +8,8 @@
 
 The theorems of tools/examples.txt are files of a crate of their own, crates/syn_examples (--examples names another folder).
 
-Fails, with a complaint for each fault, where the table breaks a test that the laws need (docs/GRAMMAR.md says what each means)."""
+Fails, with a complaint for each fault, where the table breaks a test that the laws need (`EXPLAINED` of tools/grammarlib/complaints.py says
+what each means, and so does the output)."""
 import argparse
 import sys
 from pathlib import Path
@@ -81,11 +82,11 @@ def read_table(crate):
 def tell_unexplained(source):
     for name in source.without_sentence():
         print(f'grammar: no sentence explains `{name}`', file=sys.stderr)
-    page = HERE.parent / 'docs' / 'GRAMMAR.md'
-    told = page.read_text() if page.exists() else ''
+    page = HERE.parent / 'docs' / 'reference' / 'RULES.md'
+    rows = page.read_text() if page.exists() else ''
     for rule in source.rules:
-        if f'`{rule}`' not in told:
-            print(f'grammar: docs/GRAMMAR.md doesn\'t describe the rule `{rule}`', file=sys.stderr)
+        if f'`{rule}`' not in rows:
+            print(f'grammar: docs/reference/RULES.md has no row for the rule `{rule}`', file=sys.stderr)
 
 
 def lower(borders):

@@ -26,7 +26,7 @@ and besides:
     crates/tree_answers/src/by_kind.rt  the program's kinds, by their trees and by their rules
     crates/cut_streams/src/by_kind.rt   the same of all types with a rule
     crates/memory_sweep/src             by_kind.rt, variants.rt: all types with a parser, by their names, and their variants
-    docs/GRAMMAR.md                     the table of rules: each with its sentence in the grammar, and its reader
+    docs/reference/RULES.md             the table of rules: each with its sentence in the grammar, and its reader
 
 A file of which only parts are written has them between two comments (kindslib/parts.py).
 
@@ -125,7 +125,7 @@ def outputs():
         files.update(copies(crate))
         files.update(comparisons(crate))
         files.update(prints(crate, UNPRINTED))
-    table, page = CRATES / "syn_grammar/specs/Table.antt", Path("docs/GRAMMAR.md")
+    table, page = CRATES / "syn_grammar/specs/Table.antt", Path("docs/reference/RULES.md")
     files.update(comma_lists(source, table))
     files[page] = rows(source, table, page, patterns, operators, expressions, items)
     trees = together(crates)

@@ -1,24 +1,23 @@
 #!/usr/bin/env python3
-"""Refuses each request for memory of each call, one after another, and fails where a call then answers something else than that.
+"""Refuses each request for memory of each call, one after another, and fails if the call does not return that error.
 
-    tools/memory.py [--strict] [--told] [--bin PROGRAM]     the library's calls, on the inputs of tools/memory_inputs.txt
-    tools/memory.py program [--strict] [--told]             the program's runs, on a few of them
+    tools/memory.py [--strict] [--told] [--bin PROGRAM]     calls of the library, on the inputs of tools/memory_inputs.txt
+    tools/memory.py program [--strict] [--told]             runs of the program, on a few inputs
 
-The program `memory_sweep` makes the calls (its src/main.rt tells which, and what is wrong). It is asked about each input, and about a
-file that is made of them; the last line says what was counted. A call may ask again for what it was refused, and then answers
-the right thing; such runs are counted as `again`, and are wrong with --strict. With --told each call that does so is printed.
+The program `memory_sweep` makes the calls (see its src/main.rt). It gets each input, and a file that is made of all inputs; its last
+line has the counts. A call may repeat the request that was refused, and then return the right result; such runs are counted as `again`,
+and are errors with --strict. With --told each call that does so is printed.
 
-`program` runs `syn_canon`. Each run that is refused a request has to end with status 3, to write nothing, and to say that memory is
-refused; or it answers, which counts as `again`.
+`program` runs `syn_canon`. Each run with a refused request has to end with status 3, to write nothing to standard output, and to report
+that memory is refused; or it ends as usual, which counts as `again`.
 
-The programs are built by trial builds, over a heap that refuses what it is told to (tools/refusing_heap.c): rt is run from a folder of
-links to the kit, in which that heap stands in place of its own, and nothing in that of the prover. PROGRAM is one that was built so.
+Both programs are built by trial builds over a heap that refuses the requests that it is told to refuse (tools/refusing_heap.c): rt runs
+from a folder of links to the kit, in which that heap replaces the kit's own. PROGRAM is a program that was built so.
 
-The status is 0 where nothing is wrong, 1 where something is, and 2 where a program couldn't be asked.
+The status is 0 if nothing is wrong, 1 if something is, and 2 if a program could not be built or run.
 """
 import argparse
 import re
-import shutil
 import subprocess
 import sys
 import tempfile
@@ -27,20 +26,21 @@ from dataclasses import dataclass
 from pathlib import Path
 
 import try_tests
+from gatelib.kit import kit_for_trials
 
 TOP = Path(__file__).resolve().parent.parent
 HEAP = TOP / "tools/refusing_heap.c"
 INPUTS = TOP / "tools/memory_inputs.txt"
 SWEEP, PROGRAM = "memory_sweep", "syn_canon"
-# How long a run may take, its build not counted: ./test has it wait for others.
+# How long a run may take without its build, on a busy machine.
 SECONDS = 9000
-# How many of the calls that are wrong are shown.
+# How many wrong calls are shown.
 SHOWN = 40
 FOUND = re.compile(r"(wrong|again) (\d+) (.*)")
 COUNT = re.compile(r"(\d+) ([a-z]+)")
 COUNTED = ("calls", "runs", "memory", "again", "wrong")
 
-# The program's words, and what stands on its standard input; no run makes more requests than that.
+# The words of the program and its standard input, and more requests than any of these runs makes.
 RUNS = [
     ("print item", "#[a] pub struct S<T, 'a>(pub(in b) &'a [T; 1 + 2]);"),
     ("check stmts", "let a = b(c); d::<E>().f?"),
@@ -48,13 +48,13 @@ RUNS = [
 ]
 MOST = 80
 REFUSED = (3, "", "out of memory\n")
-# How a trial tells of the end of a case, behind what the program said.
+# The line of a trial at the end of a case, after the program's standard error.
 CASE = re.compile(r"(?m)^case=\d+ run=ended status=(\d+) .*\n")
 
 
 @dataclass(frozen=True)
 class Input:
-    """A text, with the type that it is read as, and the variant of that; none where it has no variants."""
+    """A text, with the type that it is parsed as, and the variant, or an empty text if the type has none."""
 
     type: str
     variant: str
@@ -62,7 +62,7 @@ class Input:
 
     @property
     def line(self):
-        """How the program is asked about it."""
+        """The line of the program's input."""
         name = f"{self.type}::{self.variant}" if self.variant else self.type
         return f"{name} {self.text}" if self.text else name
 
@@ -72,15 +72,15 @@ class Input:
 
 
 def inputs_of(text):
-    """The inputs that a text holds, one a line; empty lines and those with `#` in front are left out."""
+    """The inputs of a text, one on each line; empty lines and lines that begin with `#` are left out."""
     lines = [line for line in text.splitlines() if line.strip() and not line.startswith("#")]
     names = [line.partition(" ")[0].partition("::") for line in lines]
     return [Input(name[0], name[2], line.partition(" ")[2]) for name, line in zip(names, lines)]
 
 
 def of_each_form(inputs):
-    """The shortest of these inputs of each variant, and each of those that are kept as their tokens, which differ by their forms. What
-    stands in a group without delimiters is left out."""
+    """The shortest of these inputs of each variant, and all that are stored as tokens, since their forms differ. Inputs in a group
+    without delimiters are left out."""
     shortest = {}
     for it in sorted(inputs, key=lambda it: len(it.text)):
         if not it.is_in_group:
@@ -89,7 +89,7 @@ def of_each_form(inputs):
 
 
 def whole_file(inputs):
-    """A file with an item and a member of each form, and in it a type, a pattern, an expression and a statement of each."""
+    """A file with an item and a member of each form, and in it a type, a pattern, an expression and a statement of each form."""
     texts = {}
     for it in of_each_form(inputs):
         texts.setdefault(it.type, []).append(it.text)
@@ -104,60 +104,36 @@ def listed(opening, texts, closing):
     return opening + ", ".join(texts) + closing
 
 
-def kit():
-    """The folder of the kit."""
-    path = shutil.which("rt")
-    if not path:
-        raise RuntimeError("there is no rt here")
-    return Path(path).resolve().parent.parent
-
-
-def linked(folder, to, but=()):
-    """Makes a folder of links to all that stands in another, but these."""
-    to.mkdir()
-    for path in folder.iterdir():
-        if path.name not in but:
-            (to / path.name).symlink_to(path)
-
-
 def kit_over_heap(room, *words):
-    """Makes a kit whose trial builds have the heap that refuses, compiled with these words, and answers its command rt."""
-    own, made = kit(), room / "kit"
-    linked(own, made, ("bin", "c"))
-    linked(own / "c", made / "c", ("liblibc_c.a",))
-    # what rt is made of looks for the kit around the place where it stands, and asks the prover for nothing but a hint
-    scripts = [path.name for path in (own / "bin").iterdir() if path.name == "rtlib.py" or path.read_bytes()[:2] == b"#!"]
-    linked(own / "bin", made / "bin", (*scripts, "rattle"))
-    for name in scripts:
-        shutil.copy(own / "bin" / name, made / "bin" / name)
-    (made / "bin/rattle").symlink_to(shutil.which("true"))
-    compiler = [own / "toolchain/bin/clang", "-O2", "-fPIC", *words, "-c", HEAP, "-o", made / "c/liblibc_c.a"]
+    """Makes a kit whose trial builds have the refusing heap, compiled with these words, and returns its command rt."""
+    made = kit_for_trials(room, ("liblibc_c.a",))
+    compiler = [made / "toolchain/bin/clang", "-O2", "-fPIC", *words, "-c", HEAP, "-o", made / "c/liblibc_c.a"]
     subprocess.run(compiler, check=True)
     return made / "bin/rt"
 
 
 def tried(lines):
-    """The status with which the sweep over these lines ends, and what it writes, by a trial build."""
+    """The status of the sweep over these lines and its output, by a trial build."""
     with tempfile.TemporaryDirectory(prefix="memory-") as folder:
         room = Path(folder)
         try_tests.copied(TOP, room)
         command = [kit_over_heap(room), "try"]
-        # the steps are the interpreter's, which wouldn't get to the end; the compiled program answers
+        # the interpreter stops after these steps; the result is that of the compiled program
         wrote, said, _ = try_tests.called(["--steps", "1000"], room / "crates" / SWEEP, SECONDS, lines.encode(), command)
     ended = try_tests.ENDED.search(said)
     if not ended:
-        raise RuntimeError(f"the sweep didn't end\n{try_tests.end_of(said)}")
+        raise RuntimeError(f"the sweep did not end\n{try_tests.end_of(said)}")
     return int(ended[1]), wrote.decode()
 
 
 def asked(program, lines):
-    """The same of this program."""
+    """The same, by this program."""
     run = subprocess.run([program], input=lines, capture_output=True, text=True)
     return run.returncode, run.stdout
 
 
 def found_in(status, wrote):
-    """What the sweep counted, and what it found: lines of what is wrong, and of what asks again, each with the number of its input."""
+    """The counts of the sweep, and its lines of wrong calls and of calls that repeat a request, each with the number of its input."""
     *lines, last = wrote.splitlines() or [""]
     counts = {name: int(number) for number, name in COUNT.findall(last)}
     if tuple(counts) != COUNTED or status != (counts["wrong"] > 0):
@@ -170,17 +146,17 @@ def found_in(status, wrote):
 
 
 def shown(it):
-    """The line of an input, cut where it is long."""
+    """The line of an input, shortened."""
     return it.line if len(it.line) <= 100 else it.line[:100] + " .."
 
 
 def sweep(options):
-    """Sweeps the library's calls. Returns what was counted."""
+    """Sweeps the calls of the library. Returns the counts."""
     inputs = inputs_of(INPUTS.read_text(encoding="utf-8"))
     inputs.append(whole_file(inputs))
     lines = "".join(it.line + "\n" for it in inputs)
     counts, found = found_in(*(asked(options.bin, lines) if options.bin else tried(lines)))
-    # what belongs to no input has the number 0
+    # a line without an input has the number 0
     named = ["without input", *map(shown, inputs)]
     told = [("wrong", it) for it in found["wrong"][:SHOWN]] + [("again", it) for it in found["again"] if options.told]
     for kind, (number, what) in told:
@@ -189,8 +165,7 @@ def sweep(options):
 
 
 def runs_of(room):
-    """Of each run of the program whether it was refused a request, and its status, what it wrote, and what it said: for each of RUNS
-    as many runs as MOST says."""
+    """For each run of the program whether a request was refused, and its status, output and errors: MOST runs for each of RUNS."""
     counter, cases = room / "counter", room / "cases"
     cases.mkdir()
     for at in range(len(RUNS) * MOST):
@@ -210,7 +185,7 @@ def runs_of(room):
 
 
 def judged(words, runs):
-    """What was counted of these runs, up to the first that was refused no request; it has to answer. One that is wrong is printed."""
+    """The counts of these runs, up to the first without a refused request, which has to end as usual. Wrong runs are printed."""
     refused = [is_refused for is_refused, _ in runs]
     if all(refused) or runs[refused.index(False)][1][0] != 0:
         raise RuntimeError(f"{PROGRAM} {words}: no answer, where {sum(refused)} requests were refused")
@@ -226,7 +201,7 @@ def judged(words, runs):
 
 
 def program(_options):
-    """Sweeps the program's runs. Returns what was counted."""
+    """Sweeps the runs of the program. Returns the counts."""
     with tempfile.TemporaryDirectory(prefix="memory-") as folder:
         room = Path(folder)
         try_tests.copied(TOP, room)

@@ -3,13 +3,13 @@
 
     tools/real_files.py [FOLDER..] [--show N] [--table]
 
-Without a folder it takes the library of Debian's package rust-src. `syn_canon print file` has to print each file, and to print its print
-unchanged; `print item` the same of each item that stands in a file by itself. An item is what stands from its attributes to its `;` or
-braces, as `token_lines` cuts the text into tokens. For each folder it says how many were read, and of those that were refused how many for
-which reason, with an example each; with --table that is a row of a table. The status is 1 where a print was read otherwise or the program
-failed in another way than by a refusal, 2 where nothing could be read.
+The default folder is the library of Debian's package rust-src. `syn_canon print file` has to print each file, and to print its output
+unchanged; `print item` the same for each item of a file. An item reaches from its attributes to its `;` or braces, in the tokens of
+`token_lines`. For each folder the script prints how many were read and how many were refused for which reason, with an example each;
+with --table this is a row of a table. The status is 1 if a print was read differently or the program failed without a refusal, and 2
+if nothing could be read.
 
-Both programs are built by `rt run`, or by `rt ci`.
+Both programs are built by `./prove` or `rt run`.
 """
 import argparse
 import subprocess
@@ -18,12 +18,60 @@ from collections import Counter
 from concurrent.futures import ThreadPoolExecutor
 from pathlib import Path
 
-from real_inputs import LINES, PROGRAM, ending, library, trees
-
+ROOT = Path(__file__).resolve().parent.parent
+LINES = ROOT / "crates/token_lines/out/token_lines"
+PROGRAM = ROOT / "crates/syn_canon/out/syn_canon"
 # An item that begins with one of these words ends with `;`, whatever stands before it.
 ENDED = {"use", "static", "type", "const"}
 # Behind `const` or `extern`, a word with which another item begins.
 OTHERS = {"fn", "unsafe", "async", "extern", "trait", "impl", "auto"}
+
+
+class Token:
+    """A token or a group: its kind (`Ident`, `Punct`, `{` ..), its place in the text, its text, and the tokens of a group."""
+
+    def __init__(self, kind, start, end, text=""):
+        self.kind, self.start, self.end, self.text, self.content = kind, start, end, text, []
+
+    def is_mark(self, character):
+        return self.kind == "Punct" and self.text == character
+
+
+def trees(line):
+    """The token trees of a line of `token_lines`, or None if the text was refused."""
+    if line.startswith("refused"):
+        return None
+    stack = [Token("", 0, 0)]
+    for word in line.split("\t")[0].split():
+        kind, start, end, *rest = word.split(":")
+        if kind in ")]}":
+            stack.pop().end = int(end)
+            continue
+        token = Token(kind, int(start), int(end), bytes.fromhex(rest[0]).decode() if rest else "")
+        stack[-1].content.append(token)
+        if kind in "([{":
+            stack.append(token)
+    return stack[0].content
+
+
+def ending(level, i):
+    """The `;` or the braces at the end of an item, outside of `< >`."""
+    depth = 0
+    for j in range(i, len(level)):
+        token = level[j]
+        if token.is_mark("<"):
+            depth += 1
+        elif token.is_mark(">") and not (level[j - 1].is_mark("-") or level[j - 1].is_mark("=")):
+            depth -= 1
+        elif depth == 0 and (token.is_mark(";") or token.kind == "{"):
+            return j
+    return None
+
+
+def library():
+    """The library of Debian's package rust-src, if it is installed."""
+    folders = sorted(Path("/usr/src").glob("rustc-*/library"))
+    return folders[-1] if folders else None
 
 
 def is_attribute(level, i):

@@ -1,8 +1,8 @@
 #!/usr/bin/env python3
-"""Runs the built program on the texts of tools/refusals.txt, and fails where a refusal's byte or words differ from what stands there.
+"""Runs the program on the texts of tools/refusals.txt, and fails if the byte or the message of a parse error differs from that file.
 
-A line there is `KIND  TEXT  # BYTE: WORDS`: `print KIND` of TEXT ends with status 1, writes nothing, and `refused at BYTE: WORDS`
-to standard error. An empty line and one that begins with `#` say nothing."""
+A line there is `KIND  TEXT  # BYTE: MESSAGE`: `print KIND` of TEXT ends with status 1, writes nothing to standard output, and writes
+`refused at BYTE: MESSAGE` to standard error. Empty lines and lines that begin with `#` are comments."""
 
 import argparse
 import re
@@ -18,7 +18,7 @@ SECONDS = 60
 
 
 def refusals(table):
-    """Each line's number, its KIND, its text, and what has to stand on standard error."""
+    """The number of each line, its KIND, its text, and the expected standard error."""
     for number, line in enumerate(table.splitlines(), 1):
         if not line or line.startswith("#"):
             continue
@@ -30,7 +30,7 @@ def refusals(table):
 
 
 def answer(program, kind, text):
-    """The status of the program, and what it writes to standard output and to standard error."""
+    """The status of the program, its standard output and its standard error."""
     done = subprocess.run([program, "print", kind], input=text, capture_output=True, text=True, timeout=SECONDS)
     return done.returncode, done.stdout, done.stderr
 

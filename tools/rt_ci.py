@@ -1,24 +1,23 @@
 #!/usr/bin/env python3
-"""Runs `rt ci`, with its tasks in an order that keeps the processors busy.
+"""Runs `rt ci` with its tasks in an order that keeps the processors busy, and reports its progress.
 
-    tools/rt_ci.py               of all crates
-    tools/rt_ci.py --product     without those that only test or measure: their proofs say nothing of the product
-    --edits MINUTES              also tries wrong bodies for so many minutes, beside the proof of the crate that leaves the most
-                                 processors idle, over the libraries that stand built by then (tools/try_edits.py --built)
-    --users MINUTES              the same of the crates that use that one, beside the proofs of the programs
-    --turn N                     with which of them these begin
+    tools/rt_ci.py               all crates
+    tools/rt_ci.py --product     without the crates that only test or measure
+    tools/rt_ci.py CRATE..       these crates and those below them
+    --edits MINUTES              also tries wrong bodies for this time, beside the proof of the crate that leaves most processors idle, over
+                                 the libraries that are built by then (tools/try_edits.py --built)
+    --users MINUTES              the same for the crates that use that one, beside the proofs of the programs
+    --turn N                     the number of the edit to begin with
 
-`rt ci` divides the processors by the number of tasks that are ready, and counts those that do nothing as well, such as the
-tests of a crate that has none. So on four processors a crate that all others wait for is proved by one job, while three
-processors wait with them. Here the task with the longest chain of others behind it gets a job for each processor, and others
-run beside it at a lower priority, so that they take what it leaves.
+`rt ci` divides the processors by the number of tasks that are ready, and counts those that do nothing, such as the tests of a crate
+without tests. On four processors a crate that all others wait for is then proved by one job, while three processors are idle. Here the
+task with the longest chain of others after it gets a job for each processor. Other tasks run beside it at a lower priority.
 
-What is proved and run is all told by `rt ci`, and so is the verdict: of the kit only the function is replaced by which that
-orders its tasks. A kit without that function is an error. What the edits said is printed behind it, and where one of them isn't
-refused the status is 1 as well.
+`rt ci` itself decides what is proved and run, and gives the verdict: only its function that orders the tasks is replaced. A kit without
+that function is an error. The report of the edits is printed at the end; the status is 1 too if the prover does not refuse one of them.
 
-With --product `rt ci` runs in a copy of the repository without these crates, in a folder of .git where there is one, and what it
-built is moved to the crates' folders out/. The tests are run by tools/try_tests.py then.
+If crates are left out, `rt ci` runs in a copy of the repository without them, in a folder of .git if there is one, and the programs and
+libraries that it built are moved to the folders out/ of the crates. What is proved is kept by checksums in either case.
 """
 
 import argparse
@@ -36,20 +35,23 @@ import tempfile
 import threading
 from pathlib import Path
 
+from gatelib.progress import Progress, Report
+
 TOP = Path(__file__).resolve().parent.parent
-# The crates that only test or measure, but for the programs that ask what `tools/compare_answers.py` and `tools/cuts.py` compare: proved,
-# they answer a thousand times as much as a trial build does in the same time.
+STAMP = TOP / "tools/gatelib/stamp.sh"
+# The crates that only test or measure, except the programs whose answers `tools/compare_answers.py` and `tools/cuts.py` compare: a proved
+# program gives a thousand times as many answers as a trial build in the same time.
 BESIDE = ("syn_tokens_tests", "syn_reader_tests", "syn_answers_tests", "syn_item_tests", "syn_test_support", "syn_tests", "check_rows", "memory_sweep", "syn_bench")
 
-# What the proof of a crate takes, in seconds of processor (of `syn` and the examples, as reckoned): the tasks are ordered by it, and
-# those of other crates by their lines, which are about as many, but for what owns trees. It needn't be exact.
+# The seconds of processor that the proof of a crate takes (estimated for `syn` and the examples). They order the tasks; for other crates
+# the number of lines is used. They need not be exact.
 SECONDS = {
     "syn_grammar": 290,
     "syn_examples": 280,
     "syn_tokens": 800,
     "syn_parse": 420,
     "syn_whole": 80,
-    "syn_recognize": 1960,
+    "syn_recognize": 1850,
     "syn_answers": 390,
     "syn_lower": 2710,
     "syn_pat": 990,
@@ -73,28 +75,27 @@ SECONDS = {
     "cut_streams": 420,
 }
 
-# The crate beside whose proof edits are tried: in its first minutes and in its last ones only one process runs. And the program
-# beside which those of the crates that use it are.
+# The crate beside whose proof edits are tried: in its first and last minutes only one process runs. And the program beside which the
+# edits of the crates above that crate are tried.
 IDLE, PROGRAM = "syn_expr", "syn_canon"
-# The tasks that try them, each with its number of lines and what rt would reckon for its check with one job, in bytes. The second
-# begins at once, as it has none, and so ends in time: a check of edits gives way where memory is short.
+# The tasks that try edits, each with its number of lines and the bytes that rt estimates for its check with one job. The second one
+# starts at once, since it has none: one check of edits at a time gives way if memory is short.
 EDITS, LOAD = ("", "edits"), (1, 10_000_000_000)
 USERS, NO_LOAD = ("users", "edits"), (0, 0)
-# What is added to the niceness of a task that isn't the first, and of the edits that run beside the largest crate. Those that run
-# beside the programs are one check at a time, which gets its share of the processors: with less none would end.
+# What is added to the niceness of a task that is not the first, and of the edits beside the largest crate. Those beside the programs are
+# one check at a time with a full share of the processors, since they would not end otherwise.
 NICE, NICER = 10, 19
-# How many jobs a check gets at most, and at least, where so many are left; and how many there are in all, for each processor: a check
-# is one process at its beginning and at its end.
+# The most jobs of a check; the least, if so many are left; and all jobs per processor (a check is one process at its start and end).
 MOST_JOBS, LEAST_JOBS, JOBS = 8, 2, 2.5
-# A crate whose check one job does sooner: each copy of it opens the grammar's tables anew, which takes longer than what is shared out.
-ALONE = ("syn_recognize",)
-# How much of what rt reckons for a check with one job was ever taken, and how much of it each further job takes.
+# The largest share of the memory that rt estimates for a check with one job that was ever used, and the share of each further job.
 TAKEN, TAKEN_BY_A_JOB = 0.6, 0.1
+# Seconds between two reports of the progress.
+REPORT = 60
 
 
 class Task:
-    """A task of rt's: what it waits for, its lines, the memory that it needs, and the call that does it. `takes` is what it is likely to
-    take, and `behind` what the longest chain of tasks does that begins with it."""
+    """A task of rt: what it waits for, its lines, the memory that it needs, and the call that does it. `takes` is the estimate of its
+    seconds of processor, and `behind` that of the longest chain of tasks that starts with it."""
 
     def __init__(self, key, given):
         self.key = key
@@ -108,7 +109,7 @@ class Task:
 
     def most_jobs(self, processors):
         """Edits are tried one after another."""
-        return 1 if self.key[1] == "edits" or self.key[0] in ALONE else min(processors, MOST_JOBS)
+        return 1 if self.key[1] == "edits" else min(processors, MOST_JOBS)
 
 
 def chained(given):
@@ -124,23 +125,33 @@ def chained(given):
 class Lanes:
     """Runs tasks side by side, each once those that it waits for have ended."""
 
-    def __init__(self, tasks, processors, memory):
+    def __init__(self, tasks, processors, memory, progress=None):
         self.left, self.processors, self.memory = tasks, processors, memory
         self.running, self.given, self.ended = [], {}, queue.Queue()
+        self.progress = progress or Progress(tasks, processors, lambda _: None)
 
     def run(self):
-        """What each task gave. What one raised is raised."""
+        """The result of each task. An exception of a task is raised."""
         while self.left or self.running:
             self.start_all()
-            task, gave, raised = self.ended.get()
+            task, gave, raised = self.next_ended()
             if raised:
                 raise raised
             self.running.remove(task)
             self.given[task.key] = gave
+            self.progress.end(task)
         return self.given
 
+    def next_ended(self):
+        """Waits for a task to end, and reports the progress meanwhile."""
+        while True:
+            try:
+                return self.ended.get(timeout=REPORT)
+            except queue.Empty:
+                self.progress.tell()
+
     def start_all(self):
-        """Starts what is ready and has room: what has nothing to do at once, and the first of the others on all processors."""
+        """Starts all tasks that are ready and have room: those that do nothing at once, and the first of the others on all processors."""
         ready = [it for it in self.left if all(below in self.given for below in it.waits)]
         for task in ready:
             if not task.lines:
@@ -155,7 +166,7 @@ class Lanes:
         return all(it.behind <= task.behind for it in self.running)
 
     def jobs(self, task, count):
-        """How many jobs a task gets where so many are ready: all processors where it is the first, and else a share of the rest."""
+        """The jobs of a task if so many are ready: all processors for the first one, and else a share of the rest."""
         if self.is_first(task):
             return self.processors
         idle = int(JOBS * self.processors) - sum(it.jobs for it in self.running)
@@ -169,7 +180,8 @@ class Lanes:
         task.jobs = jobs if task.lines else 0
         self.left.remove(task)
         self.running.append(task)
-        # a thread of its own: it can't take back that it is behind others, which what it starts inherits
+        self.progress.start(task)
+        # each task has a thread of its own: a thread cannot lower its niceness again, and the processes that it starts inherit it
         threading.Thread(target=self.call, args=(task, jobs, is_behind), daemon=True).start()
 
     def call(self, task, jobs, is_behind):
@@ -182,8 +194,8 @@ class Lanes:
 
 
 class Edits:
-    """Wrong bodies, tried beside the proofs for so many minutes, and those of the crates that use the largest one for others. `said` is
-    what was said of them, and `status` is 1 where one wasn't refused."""
+    """Wrong bodies that are tried beside the proofs for some minutes, and those of the crates that use the largest one. `said` is the
+    report, and `status` is 1 if one was not refused."""
 
     def __init__(self, minutes, users, turn):
         self.minutes, self.users, self.turn = minutes, users, turn
@@ -204,7 +216,7 @@ class Edits:
 
     def call(self, niceness, words, _given, _jobs):
         command = [sys.executable, "tools/try_edits.py", *words]
-        # two checks may go on side by side, and with one job each they take no more memory than is reckoned
+        # two checks may run side by side; with one job each they use no more memory than estimated
         how = {"env": {**os.environ, "RT_JOBS": "1"}, "stdout": subprocess.PIPE, "stderr": subprocess.STDOUT}
         ran = subprocess.run(["nice", "-n", str(niceness), *command], **how, text=True, errors="replace", check=False)
         self.said += ran.stdout
@@ -222,12 +234,32 @@ def kit():
     sys.dont_write_bytecode = True
     loader.exec_module(made)
     if not all(callable(getattr(made, name, None)) for name in ("in_lanes", "processors", "free", "main")):
-        sys.exit(f"rt_ci: {path} is of another kit, which has no such function: run rt ci itself, and mend this script")
+        sys.exit(f"rt_ci: {path} is of another kit, which has no such function: run rt ci itself, and update this script")
     return made
 
 
+def listed(top):
+    """The crates of the repository, each with the names on its line of crates.txt."""
+    lines = re.findall(r"(?m)^(\w+)[^:#\n]*:(.*)$", (top / "crates.txt").read_text(encoding="utf-8"))
+    return {name: below.split() for name, below in lines}
+
+
+def all_but(names, top=TOP):
+    """The crates that are neither one of these nor below one. Exits if one of the names is no crate."""
+    crates, wanted, left = listed(top), set(), [*names]
+    for name in names:
+        if name not in crates:
+            sys.exit(f"rt_ci: {name} is no crate of crates.txt")
+    while left:
+        name = left.pop()
+        if name in crates and name not in wanted:
+            wanted.add(name)
+            left += crates[name]
+    return tuple(it for it in crates if it not in wanted)
+
+
 def copy_without(names, top, room):
-    """Copies the repository to a folder, without these crates, and without what rt made."""
+    """Copies the repository to a folder, without these crates, and without build results."""
 
     def left_out(folder, found):
         at = Path(folder)
@@ -238,15 +270,15 @@ def copy_without(names, top, room):
         return ["out"] if at.parent == top / "crates" else []
 
     shutil.copytree(top, room, ignore=left_out, dirs_exist_ok=True)
-    listed = (top / "crates.txt").read_text(encoding="utf-8")
-    lines = [it for it in listed.splitlines(keepends=True) if re.split(r"[\s:]", it)[0] not in names]
+    text = (top / "crates.txt").read_text(encoding="utf-8")
+    lines = [it for it in text.splitlines(keepends=True) if re.split(r"[\s:]", it)[0] not in names]
     (room / "crates.txt").write_text("".join(lines), encoding="utf-8")
-    # rt takes the folder with a .git for the top
+    # rt takes the folder with a .git for the top of the repository
     (room / ".git").mkdir()
 
 
 def move_built(room, top):
-    """Moves what rt built of each crate to where it stands in the repository."""
+    """Moves the build results of each crate to its folder in the repository."""
     for built in (room / "crates").glob("*/out"):
         place = top / "crates" / built.parent.name / "out"
         shutil.rmtree(place, ignore_errors=True)
@@ -255,7 +287,7 @@ def move_built(room, top):
 
 @contextlib.contextmanager
 def repository(names, top=TOP):
-    """The folder in which rt ci is run: the repository, or a copy without these crates."""
+    """The folder in which rt ci runs: the repository, or a copy without these crates."""
     if not names:
         yield top
         return
@@ -269,20 +301,41 @@ def repository(names, top=TOP):
             move_built(room, top)
 
 
-def main():
-    parser = argparse.ArgumentParser(description=__doc__, formatter_class=argparse.RawDescriptionHelpFormatter)
-    parser.add_argument("--product", action="store_true", help="without the crates that only test or measure")
-    parser.add_argument("--edits", type=float, default=0, metavar="MINUTES", help="how long edits are tried beside the proofs")
-    parser.add_argument("--users", type=float, default=0, metavar="MINUTES", help="how long those of the crates above are")
-    parser.add_argument("--turn", type=int, default=0, help="with which of them these begin")
-    options = parser.parse_args()
-    rt, edits = kit(), Edits(options.edits, options.users, options.turn)
-    # some checks take more than is reckoned
-    rt.in_lanes = lambda tasks: Lanes(chained(edits.among(tasks)), rt.processors(), 0.85 * rt.free()).run()
-    with repository(BESIDE if options.product else ()) as folder:
+def sources():
+    """A checksum of the sources, for the stamp of the proved program."""
+    return subprocess.run(["bash", STAMP, "sources"], stdout=subprocess.PIPE, text=True, check=True).stdout.strip()
+
+
+def proved(rt, left_out, edits):
+    """Runs rt ci without these crates, and returns its status. A proved program gets its stamp, by which `./run` knows it."""
+
+    def in_lanes(tasks):
+        tasks = chained(edits.among(tasks))
+        # some checks use more memory than estimated
+        return Lanes(tasks, rt.processors(), 0.85 * rt.free(), Progress(tasks, rt.processors(), report.line)).run()
+
+    rt.in_lanes, report, before = in_lanes, Report(sys.stdout), sources()
+    with repository(left_out) as folder, contextlib.redirect_stdout(report):
         os.chdir(folder)
         status = rt.main(["ci"])
         os.chdir(TOP)
+        report.flush()
+    if not status and PROGRAM not in left_out and (TOP / "crates" / PROGRAM / "out" / PROGRAM).is_file():
+        subprocess.run(["bash", STAMP, "write", before], check=True)
+    return status
+
+
+def main():
+    parser = argparse.ArgumentParser(description=__doc__, formatter_class=argparse.RawDescriptionHelpFormatter)
+    parser.add_argument("crates", nargs="*", help="these crates and those below them alone")
+    parser.add_argument("--product", action="store_true", help="without the crates that only test or measure")
+    parser.add_argument("--edits", type=float, default=0, metavar="MINUTES", help="how long edits are tried beside the proofs")
+    parser.add_argument("--users", type=float, default=0, metavar="MINUTES", help="how long those of the crates above are")
+    parser.add_argument("--turn", type=int, default=0, help="the number of the edit to begin with")
+    options = parser.parse_args()
+    left_out = all_but(options.crates) if options.crates else BESIDE if options.product else ()
+    rt, edits = kit(), Edits(options.edits, options.users, options.turn)
+    status = proved(rt, left_out, edits)
     print(edits.said, end="")
     sys.exit(status or edits.status)
 

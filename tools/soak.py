@@ -1,21 +1,21 @@
 #!/usr/bin/env python3
-"""Gives the built program random input for some minutes, and sees that each run ends as the program's words say.
+"""Runs the built program on random input for some minutes, and checks that each run ends in an allowed way.
 
     tools/soak.py [--bin PROGRAM] [--minutes M] [--seed N] [--jobs N] [--kept FOLDER] [--oracle FOLDER] [FOLDER OF SOURCES]
 
-The input is one of these, by chance, and so are the words, `print` or `check` of a kind, or `list`:
+The input is chosen at random from these, and so are the arguments, `print` or `check` of a kind, or `list`:
 
 - random bytes;
-- what a lexer goes wrong at (tools/fuzz_reader.py);
-- derivations of the kinds with a few tokens changed, with odd spacing, by the generator of the other reading beside the repository;
-- a piece of a real file with a few places changed, of the folder of sources or else of Debian's rust-src.
+- what lexers get wrong (tools/fuzz_reader.py);
+- derivations of the kinds with a few tokens changed, with odd spacing, by the generator of the independent reader beside the repository;
+- a piece of a real file with a few places changed, from the folder of sources or else from Debian's rust-src.
 
-A run has to end with 0, and what it prints is read again and printed so; with 1 and a line `refused at BYTE: TEXT`; or with 3 and the
-line that memory is out. Anything else, and a run that takes too long, is a failure. Of each kind of answer, a status and a message without
-its numbers, the first input is kept in FOLDER, and so is that of each failure, each beside a file with the words.
+A run has to end with 0, and its print is parsed again and printed unchanged; with 1 and a line `refused at BYTE: TEXT`; or with 3 and the
+line that memory is out. Anything else, and a run that takes too long, is a failure. For each kind of result, a status and a message without
+its numbers, the first input is kept in FOLDER, and so is that of each failure, each beside a file with the arguments.
 
-It prints how many runs there were, how many a second, how many with each status, how many kinds of answers, and how many failed.
-The status is 1 where one did. What isn't there is left out, and named.
+It prints the number of runs, of runs a second, of runs with each status, of kinds of results, and of failures. The status is 1 if a run
+failed. What is missing is left out, and named.
 """
 import argparse
 import itertools
@@ -33,7 +33,7 @@ from pathlib import Path
 from compare_answers import ORACLE, STAGE, WORDS, random_texts, there
 from cutlib.texts import REFUSAL
 from fuzz_reader import random_text
-from real_inputs import PROGRAM, library
+from real_files import PROGRAM, library
 
 # How many inputs are made at once, and how many derivations.
 BATCH, DERIVATIONS = 100, 40

@@ -1,27 +1,26 @@
 #!/usr/bin/env python3
-"""Runs the built programs as their files crates/NAME/runs.txt say, and fails where a status or a byte that one wrote differs.
+"""Runs the built programs as their files crates/NAME/runs.txt say, and fails if a status or a byte of output differs.
 
-Each program is run as it stands in crates/NAME/out: what `./run --prove` or `rt run` has built, and both builds that `rt ci`
-leaves there. A program that isn't built, or is older than a file that it is built of, is a failure too. Names of crates may be given: then
-those alone are run.
+Each program is run from crates/NAME/out: what `./prove` or `rt run` has built, with both builds that `rt ci` leaves there. A program
+that is not built, or is older than one of its sources, is a failure too. If names of crates are given, only these are run.
 
-A file runs.txt holds runs apart by empty lines. Each line of one is a word, a colon and a value; a line with `#` is a comment.
+A file runs.txt has runs, separated by empty lines. Each line of a run is a word, a colon and a value; a line with `#` is a comment.
 
-    run        what is shown, which names the run
-    args       the words after the program's name, with the shell's quotes
-    input      what stands on standard input: text in which \\n, \\t, \\\\ and \\xNN are a line break, a tab, a backslash and a byte
-    times      how often that text stands there (a number; once if left out)
-    before     what stands before that text, `times` often, which then stands there once itself
-    behind     what stands behind it, as often
+    run        the name of the run
+    args       the arguments, with the shell's quotes
+    input      standard input: a text in which \\n, \\t, \\\\ and \\xNN are a line break, a tab, a backslash and a byte
+    times      how many times that text is given (default: once)
+    before     a text that is given `times` times before that text, which is then given once
+    behind     the same after that text
     status     the exit status
-    output     what it must write to standard output, as `input` is written (nothing if left out)
-    faults     what it must write to standard error, in the same way
-    faults begin     how the line begins that it must write there, where the rest of it is no promise
+    output     the expected standard output, written as `input` (default: nothing)
+    faults     the expected standard error, likewise
+    faults begin     how the line of standard error begins, if the rest of it is unspecified
     stdin, stdout, stderr     `closed`, `full` (the device that takes no byte) or `folder` (one that no byte can be read from),
-                              in place of a pipe; nothing is compared then
-    breaks     `input`: standard input is a socket that gives the whole of `input`, and at the next read an error in place of the end
+                              instead of a pipe; nothing is compared then
+    breaks     `input`: standard input is a socket that gives all of `input`, and at the next read an error instead of the end
     room       how many bytes standard output takes, as a file, before a write to it fails
-    memory     how many MiB of address space the run has
+    memory     the address space of the run, in MiB
 """
 
 import argparse
@@ -48,7 +47,7 @@ SECONDS = 60
 
 @dataclass
 class Run:
-    """One run of a program: the words, what it is given, and what it must answer."""
+    """One run of a program: its arguments, its input, and the expected result."""
 
     name: str
     args: list
@@ -64,7 +63,7 @@ class Run:
 
 
 def bytes_of(text):
-    """The bytes that a value of runs.txt stands for."""
+    """The bytes of a value of runs.txt."""
 
     def replaced(found):
         name = found[1]
@@ -78,14 +77,14 @@ def bytes_of(text):
 
 
 def input_of(words):
-    """What a run is given."""
+    """The input of a run."""
     text, before, behind = (bytes_of(words.get(word, "")) for word in ("input", "before", "behind"))
     times = int(words.get("times", 1))
     return before * times + text + behind * times if before or behind else text * times
 
 
 def run_of(lines):
-    """The run that the lines, `word: value` each, tell of."""
+    """The run of these lines, `word: value` each."""
     words = {}
     for line in lines:
         word, colon, value = line.partition(":")
@@ -129,7 +128,7 @@ def runs_of(text):
 
 
 def place_of(number, place):
-    """Puts what `place` names in the place of the open file of that number."""
+    """Replaces the open file of that number with what `place` names."""
     os.close(number)
     if place == "closed":
         return
@@ -143,7 +142,7 @@ def place_of(number, place):
 
 
 def broken(text):
-    """A socket from which the text can be read, and then, in place of its end, an error: the other side left what was sent to it."""
+    """A socket from which the text can be read, and then an error instead of the end: the other side left data unread."""
     ours, theirs = socket.socketpair()
     with ours:
         ours.setsockopt(socket.SOL_SOCKET, socket.SO_SNDBUF, 2 * len(text) + 4096)
@@ -153,14 +152,14 @@ def broken(text):
 
 
 def ended(program, run):
-    """How the run ends: its status, and what it wrote to standard output and to standard error."""
+    """The completed run, with its status, standard output and standard error."""
 
     def prepare():
         resource.setrlimit(resource.RLIMIT_CORE, (0, 0))
         if run.memory:
             resource.setrlimit(resource.RLIMIT_AS, (run.memory << 20, run.memory << 20))
         if run.room is not None:
-            # without the signal, a write behind the limit is an error
+            # without the signal, a write beyond the limit is an error
             signal.signal(signal.SIGXFSZ, signal.SIG_IGN)
             resource.setrlimit(resource.RLIMIT_FSIZE, (run.room, run.room))
         for number, stream in enumerate(("stdin", "stdout", "stderr")):
@@ -179,7 +178,7 @@ def ended(program, run):
 
 
 def differences(program, run):
-    """What the program does otherwise than the run says, in words."""
+    """The differences between the program and the run, in words."""
     try:
         done = ended(program, run)
     except subprocess.TimeoutExpired:
@@ -194,7 +193,7 @@ def differences(program, run):
 
 
 def faults_of(run, wrote):
-    """What has to stand on standard error: what the run says, or this line, where the run says how it begins and it begins so."""
+    """The expected standard error: that of the run, or this line, if it begins as the run says."""
     if run.begins is None:
         return run.faults
     is_line = wrote.endswith(b"\n") and wrote.count(b"\n") == 1
@@ -202,7 +201,7 @@ def faults_of(run, wrote):
 
 
 def sources_of(crate):
-    """The crate and the crates of the repository that it stands on."""
+    """The crate and the crates of the repository that it uses."""
     below = dict(re.findall(r"(?m)^(\w+)[^:\n]*:(.*)$", (TOP / "crates.txt").read_text()))
     found, left = set(), [crate]
     while left:
@@ -214,10 +213,10 @@ def sources_of(crate):
 
 
 def builds_of(crate):
-    """The builds of a program. It fails where there is none, or a source is newer."""
+    """The builds of a program. Fails if there is none, or a source is newer."""
     builds = [path for path in (TOP / "crates" / crate / "out" / (crate + end) for end in BUILDS) if path.is_file()]
     if not builds:
-        raise ValueError(f"{crate} isn't built: ./run --prove, rt run in its folder or rt ci builds it")
+        raise ValueError(f"{crate} is not built: ./prove or rt run in its folder builds it")
     files = [it for name in sources_of(crate) for it in (TOP / "crates" / name / "src").rglob("*.rt")]
     newest = max(files, key=lambda it: it.stat().st_mtime)
     for path in builds:
@@ -227,7 +226,7 @@ def builds_of(crate):
 
 
 def tried(crate):
-    """Runs what the file of the crate says, and returns how many runs there were and how many differ."""
+    """Runs the program as its file says, and returns the number of runs and the number that differ."""
     runs = runs_of((TOP / "crates" / crate / "runs.txt").read_text())
     count = failures = 0
     for path in builds_of(crate):

@@ -58,7 +58,7 @@ class Programs(unittest.TestCase):
     def test_another_status(self):
         faults = tried(PARENTHESES, self.options("#!/bin/sh\nexit 3\n"))[1]
         self.assertEqual(len(faults), 6)
-        self.assertIn("print, 8 levels: status 3 in place of 1, with a wrong token", faults)
+        self.assertIn("print, 8 levels: status 3 instead of 1, with a wrong token", faults)
 
     def test_what_goes_on_for_ever_is_ended(self):
         status, _seconds = run(self.program(PROGRAM), "print", "stmts", "(" * 200, 0.5)

@@ -228,9 +228,9 @@ class Kinds(unittest.TestCase):
         page.write_text(f"Before.\n\n{HEAD}| `old` | Old. | `Old` |\n\nBehind.\n")
         text = rows(source, table, page)
         self.assertTrue(text.startswith(f"Before.\n\n{HEAD}| `thing` | A thing. | `Thing` |\n"))
-        self.assertIn("| `things` | Things. | `things` of `syn_tree/comma_lists.rt` |\n", text)
-        self.assertIn("| `unread` | Unread. | not read yet |\n", text)
-        self.assertTrue(text.endswith("| `others` | Things that end otherwise. | not read yet |\n\nBehind.\n"))
+        self.assertIn("| `things` | Things. | `things` of `syn_tree/src/comma_lists.rt` |\n", text)
+        self.assertIn("| `unread` | Unread. | recognized alone |\n", text)
+        self.assertTrue(text.endswith("| `others` | Things that end otherwise. | recognized alone |\n\nBehind.\n"))
         page.write_text("No table.\n")
         with self.assertRaises(Fault):
             rows(source, table, page)
@@ -241,7 +241,7 @@ class Kinds(unittest.TestCase):
         table, page = self.top / "Table.antt", self.top / "PAGE.md"
         table.write_text(TABLE)
         page.write_text(f"{HEAD}\nBehind.\n")
-        self.assertIn("| `thing` | A thing. | `thing` of `syn_tree/things.rt` |\n", rows(source, table, page))
+        self.assertIn("| `thing` | A thing. | `thing` of `syn_tree/src/things.rt` |\n", rows(source, table, page))
 
     def page_of(self, source, table_text):
         """The page of a table of this text, as this crate reads its rules."""
@@ -254,8 +254,8 @@ class Kinds(unittest.TestCase):
         level = "\nimpl Level for Sums {\n    ghost chain_rule = { rules.sums };\n\n    ghost level_rule = { rules.sum };\n}\n"
         table = "--\n-- A sum.\ntable sum =\n    rule thing & rule sums\n--\n-- What is added.\ntable sums =\n    empty\n--\n-- A thing.\ntable thing =\n    empty\n"
         text = self.page_of(self.crate(TYPES + level), table)
-        self.assertIn("| `sum` | A sum. | `Sums` of `syn_tree/things.rt` |\n", text)
-        self.assertIn("| `sums` | What is added. | `Sums` of `syn_tree/things.rt` |\n", text)
+        self.assertIn("| `sum` | A sum. | `Sums` of `syn_tree/src/things.rt` |\n", text)
+        self.assertIn("| `sums` | What is added. | `Sums` of `syn_tree/src/things.rt` |\n", text)
 
     def test_a_rule_that_stands_in_others_alone_is_read_within_them(self):
         table = """--
@@ -282,7 +282,7 @@ table entry =
 """
         text = self.page_of(self.crate(TYPES + READING), table)
         self.assertIn("| `thing` | A thing. | `Thing` |\n", text)
-        for rule, said, read in (("part", "A part.", "within others"), ("word", "A word.", "within others"), ("list", "A list.", "not read yet"), ("entry", "An entry.", "not read yet")):
+        for rule, said, read in (("part", "A part.", "within others"), ("word", "A word.", "within others"), ("list", "A list.", "recognized alone"), ("entry", "An entry.", "recognized alone")):
             self.assertIn(f"| `{rule}` | {said} | {read} |\n", text)
 
     def test_a_function_is_named_for_what_its_own_contract_or_proof_says(self):
@@ -294,8 +294,8 @@ table entry =
         table.write_text(TABLE)
         page.write_text(f"{HEAD}\nBehind.\n")
         text = rows(source, table, page)
-        self.assertIn("| `thing` | A thing. | `thing` of `syn_tree/things.rt` |\n", text)
-        self.assertIn("| `things` | Things. | `opening` of `syn_tree/things.rt` |\n", text)
+        self.assertIn("| `thing` | A thing. | `thing` of `syn_tree/src/things.rt` |\n", text)
+        self.assertIn("| `things` | Things. | `opening` of `syn_tree/src/things.rt` |\n", text)
 
     def test_a_value_may_stand_for_other_syntax_than_itself(self):
         both = SPECS + "abbrev pub view_Thing : Thing-in.Inside → Syntax\nabbrev pub syntax_of_Thing : Syntax → Syntax\n"

@@ -1,11 +1,26 @@
 #!/usr/bin/env python3
 """Tests of real_files.py: which items it finds in a file, and where they begin and end."""
 
+import re
 import unittest
 
-from real_files import items_of, line_at, place
-from real_inputs import trees
-from test_real_inputs import line_of
+from real_files import items_of, line_at, place, trees
+
+TOKEN = re.compile(r"\w+|\S")
+
+
+def line_of(text):
+    """The line that `token_lines` prints for a text without literals and lifetimes."""
+    words = []
+    for match in TOKEN.finditer(text):
+        token, place_of = match[0], f"{match.start()}:{match.end()}"
+        if token in "(){}[]":
+            words.append(f"{token}:{place_of}")
+        elif token[0].isalpha():
+            words.append(f"Ident:{place_of}:{token.encode().hex()}")
+        else:
+            words.append(f"Punct:{place_of}:{token.encode().hex()}:Alone")
+    return " ".join(words) + "\t"
 
 
 def found(text):
@@ -26,6 +41,20 @@ class Items(unittest.TestCase):
 
     def test_what_has_no_end_is_left_out(self):
         self.assertEqual(found("struct S; use a"), ["struct S;"])
+
+    def test_an_item_begins_with_its_attributes(self):
+        text = "fn f() {} #[a] #[b(c)] pub(crate) struct S; struct T(u8);"
+        self.assertEqual(found(text), ["fn f() {}", "#[a] #[b(c)] pub(crate) struct S;", "struct T(u8);"])
+
+    def test_an_item_ends_outside_of_generics(self):
+        text = "struct S<const N: usize = { 1 }>(u8) where T: F<{ 2 }>; enum E {}"
+        self.assertEqual(found(text), ["struct S<const N: usize = { 1 }>(u8) where T: F<{ 2 }>;", "enum E {}"])
+
+    def test_an_arrow_closes_no_generics(self):
+        self.assertEqual(found("struct S<F: Fn() -> u8> { f: F } x"), ["struct S<F: Fn() -> u8> { f: F }"])
+
+    def test_a_refused_text_has_no_tokens(self):
+        self.assertIsNone(trees("refused at 0: unbalanced group"))
 
     def test_the_line_of_a_refusal(self):
         self.assertEqual(place("refused at 12: expected `;`"), 12)

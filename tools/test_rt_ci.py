@@ -1,6 +1,8 @@
 #!/usr/bin/env python3
-"""Tests of rt_ci.py: every task is done once, behind those that it waits for, and the one with the longest chain gets the processors."""
+"""Tests of rt_ci.py: every task is done once, after those that it waits for, and the one with the longest chain gets the processors."""
 
+import contextlib
+import io
 import os
 import tempfile
 import threading
@@ -8,6 +10,7 @@ import time
 import unittest
 from pathlib import Path
 from types import SimpleNamespace
+from unittest import mock
 
 import rt_ci
 from rt_ci import Lanes, chained, repository
@@ -89,19 +92,13 @@ class Tasks(unittest.TestCase):
 
     def test_every_crate_of_the_product_is_measured(self):
         names = {it.split(":")[0] for it in (rt_ci.TOP / "crates.txt").read_text().splitlines() if ":" in it}
-        self.assertEqual(names - {*rt_ci.BESIDE}, {*rt_ci.SECONDS})
+        self.assertEqual(names - {*rt_ci.BESIDE}, {*rt_ci.SECONDS} & names)
 
     def test_jobs_on_many_processors(self):
         calls = Calls()
         calls.add("a")
         calls.run(processors=64)
         self.assertEqual(calls.jobs, {"a": 8})
-
-    def test_what_one_job_does_sooner_gets_one(self):
-        calls = Calls()
-        calls.add(rt_ci.ALONE[0], lines=9)
-        calls.run()
-        self.assertEqual(calls.jobs, {rt_ci.ALONE[0]: 1})
 
     def test_edits_get_one_job(self):
         calls = Calls()
@@ -140,6 +137,38 @@ class Tasks(unittest.TestCase):
 
     def test_the_kit_has_what_is_replaced(self):
         self.assertTrue(callable(rt_ci.kit().in_lanes))
+
+
+class Proved(unittest.TestCase):
+    """A run over a kit whose `main` orders two tasks and prints as `rt ci` does."""
+
+    def run_with(self, status, left_out=("low_tests",)):
+        def main(_words):
+            rt.in_lanes({("low", "proof"): ([], 5, 1, lambda given, jobs: print("== low\nso far: 1 of 2") or print("rt: low proved"))})
+            print(f"{1 - status} passed, {status} failed")
+            return status
+
+        rt, said, stamps = SimpleNamespace(main=main, processors=lambda: 2, free=lambda: 100), io.StringIO(), []
+        script = lambda words, **_: stamps.append(words[2:]) or SimpleNamespace(stdout="sum\n")
+        before = Path.cwd()
+        with tempfile.TemporaryDirectory() as folder, mock.patch.object(rt_ci, "TOP", Path(folder)), contextlib.redirect_stdout(said), mock.patch.object(rt_ci.subprocess, "run", script), \
+                mock.patch.object(rt_ci, "repository", lambda _: contextlib.nullcontext(folder)):
+            program = Path(folder, "crates", rt_ci.PROGRAM, "out", rt_ci.PROGRAM)
+            program.parent.mkdir(parents=True)
+            program.touch()
+            self.assertEqual(rt_ci.proved(rt, left_out, rt_ci.Edits(0, 0, 1)), status)
+            os.chdir(before)
+        return said.getvalue().splitlines(), stamps
+
+    def test_a_proved_program_is_stamped(self):
+        said, stamps = self.run_with(0)
+        self.assertEqual(stamps, [["sources"], ["write", "sum"]])
+        self.assertEqual([said[0], said[2]], ["rt: low proved", "1 passed, 0 failed"])
+        self.assertRegex(said[1], r"^-- crate 1 of 1, 0 s, about 0 min left; low took 0 s$")
+
+    def test_another_program_is_not_stamped(self):
+        self.assertEqual(self.run_with(1)[1], [["sources"]])
+        self.assertEqual(self.run_with(0, (rt_ci.PROGRAM,))[1], [["sources"]])
 
 
 class TriedEdits(unittest.TestCase):
@@ -242,6 +271,11 @@ class Copies(unittest.TestCase):
                 (folder / "crates/low/out").mkdir()
                 raise SystemExit(2)
         self.assertEqual([*(self.top / "crates/low/out").iterdir()], [])
+
+    def test_the_crates_that_are_named(self):
+        self.assertEqual(rt_ci.all_but(["high"], self.top), ("low_tests",))
+        self.assertEqual(rt_ci.all_but(["low"], self.top), ("low_tests", "high"))
+        self.assertRaises(SystemExit, rt_ci.all_but, ["higher"], self.top)
 
     def test_no_crate_of_the_product_stands_on_one_that_is_left_out(self):
         for line in (rt_ci.TOP / "crates.txt").read_text().splitlines():

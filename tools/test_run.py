@@ -1,46 +1,36 @@
 #!/usr/bin/env python3
-"""Tests of ./run, with a command rt that builds nothing: it notes how it is called, and answers as the real one does."""
+"""Tests of ./run, with a command rt that builds nothing: it notes how it is called, and prints what the real one does."""
 
 import os
 import re
 import shutil
 import subprocess
 import tempfile
-import time
 import unittest
 from pathlib import Path
 
 TOP = Path(__file__).resolve().parent.parent
 CRATE = "crates/syn_canon"
 CRATES = ["low", "middle", "high", "syn_canon"]
+STAMP = "tools/gatelib/stamp.sh"
 # What the script and the command rt of the tests call; PATH has nothing else, so no other rt is found.
 TOOLS = "awk bash cat cut dirname env find flock grep head mkdir mktemp paste python3 readlink rm sed sha256sum sh sort stat tail tee xargs"
 USAGE = b"usage: syn_canon print|check KIND, or syn_canon list\n"
-TRIAL = re.compile(rb"\./run: this answer comes from a trial build that nothing proves.*\./run --prove.*\n")
+TRIAL = re.compile(rb"\./run: this is a trial build without proofs.*\./prove syn_canon.*\n")
 
-# Answers from the files output, faults and status beside it, by `try`; builds what only tells its words, by `lib` and `run`.
+# Takes its output, faults and status from the files beside it.
 RT = r"""#!/usr/bin/env python3
 import os, sys
 here = os.path.dirname(os.path.abspath(__file__))
 read = lambda name, otherwise="": open(f"{here}/{name}").read() if os.path.exists(f"{here}/{name}") else otherwise
 with open(f"{here}/calls", "a") as calls:
     print(os.path.basename(os.getcwd()), *sys.argv[1:], file=calls)
-if sys.argv[1] == "try":
-    open(f"{here}/input", "w").write(sys.stdin.read())
-    sys.stdout.write(read("output"))
-    status = int(read("status", "0"))
-    sys.stderr.write("rt: a check will refuse this: some name\n" + read("faults"))
-    sys.stderr.write(read("report", f"checked: ended status={status}\nrun=ended status={status} runners=1 proved=no\n"))
-    sys.exit(status)
-name = os.path.basename(os.getcwd())
-print("so far: 3 of 4 functions checked")
-if read("broken") == name:
-    sys.exit("not proved: this and that")
-os.makedirs("out/rlib", exist_ok=True)
-made = f"out/{name}" if sys.argv[1] == "run" else "out/rlib/stamp"
-with open(made, "w") as out:
-    out.write("#!/bin/sh\necho proved: \"$@\"\n")
-os.chmod(made, 0o755)
+open(f"{here}/input", "w").write(sys.stdin.read())
+sys.stdout.write(read("output"))
+status = int(read("status", "0"))
+sys.stderr.write("rt: a check will refuse this: some name\n" + read("faults"))
+sys.stderr.write(read("report", f"checked: ended status={status}\nrun=ended status={status} runners=1 proved=no\n"))
+sys.exit(status)
 """
 
 
@@ -57,7 +47,9 @@ class Case(unittest.TestCase):
         for tool in TOOLS.split():
             (self.tools / tool).symlink_to(shutil.which(tool))
         self.env = {"PATH": f"{self.kit / 'bin'}:{self.tools}"}
-        shutil.copy(TOP / "run", self.root)
+        (self.root / STAMP).parent.mkdir(parents=True)
+        for name in ("run", STAMP):
+            shutil.copy(TOP / name, self.root / name)
         for name in [*CRATES, "low_lines"]:
             (self.root / "crates" / name / "src").mkdir(parents=True)
         shutil.copytree(TOP / CRATE / "specs", self.root / CRATE / "specs")
@@ -83,7 +75,7 @@ class Case(unittest.TestCase):
 
 class Words(Case):
     def test_wrong_words_are_answered_at_once(self):
-        for words in ((), ("",), ("print",), ("print", "items"), ("derive", "print"), ("print", "derive", "derive"), ("print ", "derive"), ("list", "file"), ("--prove", "x"), ("print", "--help"), ("print", "[a-z]*")):
+        for words in ((), ("",), ("print",), ("print", "items"), ("derive", "print"), ("print", "derive", "derive"), ("print ", "derive"), ("list", "file"), ("--prove",), ("print", "--help"), ("print", "[a-z]*")):
             ran = self.run_with(*words)
             self.assertEqual((ran.returncode, ran.stdout, ran.stderr), (2, b"", USAGE), words)
         self.assertEqual(self.run_with("lists", how=">&- 2>&-").returncode, 2)
@@ -98,15 +90,14 @@ class Words(Case):
         self.assertGreater(len(found), 3)
         for word in found:
             self.assertRegex(told.splitlines()[-1], rf"[ |]{word}[ .|]")
-        for option in ("./run WORD..", "./run --prove", "./run --help"):
+        for option in ("./run WORD..", "./prove syn_canon", "./run --help"):
             self.assertIn(option, told)
 
     def test_no_kit(self):
         self.rt.unlink()
-        for words in (("print", "derive"), ("--prove",)):
-            ran = self.run_with(*words)
-            self.assertEqual((ran.returncode, ran.stdout), (125, b""))
-            self.assertRegex(ran.stderr, rb"\./run: the command rt isn't there.*Rattle kit \(rattle-kit-\w+\)")
+        ran = self.run_with("print", "derive")
+        self.assertEqual((ran.returncode, ran.stdout), (125, b""))
+        self.assertRegex(ran.stderr, rb"\./run: the command rt isn't there.*Rattle kit \(rattle-kit-\w+\)")
 
 
 class Trial(Case):
@@ -160,7 +151,7 @@ class Trial(Case):
         self.answer(report="checked: no-answer: the program wrote too much\nrun=no-answer proved=no\n", status="6", output="")
         ran = self.run_with("check", "derive")
         self.assertEqual((ran.returncode, ran.stdout), (125, b""))
-        for word in (b"the program wrote too much", b"1048576 bytes", b"./run --prove"):
+        for word in (b"the program wrote too much", b"1048576 bytes", b"./prove syn_canon"):
             self.assertIn(word, ran.stderr)
 
     def test_through_a_link_and_from_elsewhere(self):
@@ -172,48 +163,37 @@ class Trial(Case):
 
 
 class Proved(Case):
-    def test_each_crate_is_built_in_turn(self):
-        ran = self.run_with("--prove")
-        self.assertEqual((ran.returncode, ran.stdout), (0, b""))
-        self.assertEqual(self.calls(), ["low lib", "middle lib", "high lib", "syn_canon run -- check derive"])
-        for number, name in enumerate(CRATES, 1):
-            self.assertRegex(ran.stderr.decode(), rf"\./run: crate {number} of 4, {name}\n\./run:   3 of 4 functions checked\n")
-        self.assertEqual(self.run_with("print", "derive", given=b"").stdout, b"proved: print derive\n")
-        again = self.run_with("--prove")
-        self.assertEqual((again.returncode, len(self.calls())), (0, 4))
-        self.assertIn(b"is built of these sources", again.stderr)
+    def stamp(self, *words):
+        return subprocess.run(["bash", self.root / STAMP, *words], stdout=subprocess.PIPE, env=self.env, text=True, check=True).stdout.strip()
 
-    def test_the_proved_program_answers_without_a_word(self):
-        self.run_with("--prove")
+    def build(self):
+        """A program with a stamp, as tools/rt_ci.py leaves it."""
+        program = self.root / CRATE / "out/syn_canon"
+        program.parent.mkdir(exist_ok=True)
+        program.write_text('#!/bin/sh\necho proved: "$@"\n')
+        program.chmod(0o755)
+        self.stamp("write", self.stamp("sources"))
+
+    def test_the_proved_program_runs_without_a_message(self):
+        self.build()
         ran = self.run_with("check", "visibility")
         self.assertEqual((ran.returncode, ran.stdout, ran.stderr), (0, b"proved: check visibility\n", b""))
         self.rt.unlink()
         self.assertEqual(self.run_with("check", "visibility").stdout, b"proved: check visibility\n")
+        self.assertEqual(self.calls(), [])
 
-    def test_what_has_changed_is_not_run(self):
+    def test_a_program_of_other_sources_is_not_run(self):
         for changed in (self.root / CRATE / "out/syn_canon", self.root / "crates/low/src/lib.rt", self.kit / "KIT-ID"):
-            self.run_with("--prove")
+            self.build()
             changed.write_text("changed\n")
             self.answer(output="tried\n")
             self.assertEqual(self.run_with("check", "derive").stdout, b"tried\n", changed)
 
-    def test_how_long_it_took_before(self):
-        self.run_with("--prove")
-        times = self.root / CRATE / "out/run.times"
-        self.assertEqual([line.split()[0] for line in times.read_text().splitlines()], CRATES)
-        times.write_text("low 17\nmiddle 4\nhigh 260\nsyn_canon 40\n")
-        (self.root / "crates/low/src/lib.rt").write_text("changed\n")
-        time.sleep(0.01)
-        told = self.run_with("--prove").stderr.decode()
-        self.assertIn("./run: crate 3 of 4, high, which took 260 s before\n", told)
-        self.assertNotIn("260", times.read_text())
-
-    def test_what_is_not_proved_is_told(self):
-        self.answer(broken="middle")
-        ran = self.run_with("--prove")
-        self.assertEqual((ran.returncode, self.calls()), (125, ["low lib", "middle lib"]))
-        self.assertIn(b"not proved: this and that", ran.stderr)
-        self.assertIn(b"./run: middle wasn't built", ran.stderr)
+    def test_a_program_without_a_stamp_is_not_run(self):
+        self.build()
+        (self.root / CRATE / "out/run.stamp").unlink()
+        self.answer(output="tried\n")
+        self.assertEqual(self.run_with("check", "derive").stdout, b"tried\n")
 
 
 class Texts(unittest.TestCase):

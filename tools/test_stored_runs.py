@@ -134,7 +134,7 @@ class Programs(unittest.TestCase):
 
     def test_what_is_not_built(self):
         self.built.unlink()
-        self.assertRaisesRegex(ValueError, "isn't built", stored_runs.tried, "program")
+        self.assertRaisesRegex(ValueError, "is not built", stored_runs.tried, "program")
 
     def test_what_is_older_than_a_source(self):
         late = self.built.stat().st_mtime + 10

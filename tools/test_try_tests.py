@@ -2,6 +2,7 @@
 """Tests of try_tests.py, with a command in the place of rt: which runs it takes for well ended. Run it with no arguments."""
 
 import contextlib
+import functools
 import io
 import tempfile
 import unittest
@@ -67,7 +68,21 @@ class Tests(Trial):
 
     def test_no_end(self):
         for log, status in ((PASSED, 0), (PASSED + "run=none proved=no\n", 2), (PASSED + ENDED, 1), (PASSED + ENDED.replace("status=0", "status=3"), 0)):
-            self.assertIn("didn't end well", self.tried(log, status))
+            self.assertIn("did not end", self.tried(log, status))
+
+
+class Refused(Trial):
+    """Tests with a request for memory refused."""
+
+    def refused(self, log):
+        self.write("log", log)
+        run = functools.partial(try_tests.run_refused, 7)
+        return self.answered(run, "high", f'[ "$4 $5" = "--fail-alloc 7" ] && cat {self.top}/log\nexit 1\n')
+
+    def test_those_of_the_module_have_to_pass(self):
+        self.assertEqual(self.refused("test tests::a ... FAILED\ntest tests::scarce_memory::b ... ok\n"), "")
+        self.assertIn("tests::scarce_memory::b failed", self.refused("test tests::scarce_memory::b ... FAILED\n"))
+        self.assertIn("no test failed", self.refused("test tests::scarce ... ok\n"))
 
 
 class Programs(Trial):
@@ -83,19 +98,19 @@ class Programs(Trial):
         self.assertEqual(self.program('shift 2; echo "$# $*"\n' + self.END.replace("status=0", "status=3") + "exit 3\n"), "")
 
     def test_it_writes_something_else(self):
-        self.assertIn("something else", self.program("echo 3\n" + self.END))
-        self.assertIn("something else", self.program("printf 2\n" + self.END))
+        self.assertIn("differs from", self.program("echo 3\n" + self.END))
+        self.assertIn("differs from", self.program("printf 2\n" + self.END))
 
     def test_another_status(self):
         self.assertIn("status 1 in place of 0", self.program("wc -l\n" + self.END.replace("status=0", "status=1") + "exit 1\n"))
 
     def test_no_end(self):
-        self.assertIn("didn't end well", self.program("wc -l\n"))
-        self.assertIn("didn't end well", self.program("wc -l\necho run=none proved=no >&2\nexit 2\n"))
+        self.assertIn("did not end", self.program("wc -l\n"))
+        self.assertIn("did not end", self.program("wc -l\necho run=none proved=no >&2\nexit 2\n"))
 
     def test_it_hangs(self):
         with mock.patch.object(try_tests, "WITH_BUILD", 0.001):
-            self.assertIn("didn't end well", self.program("exec sleep 5\n"))
+            self.assertIn("did not end", self.program("exec sleep 5\n"))
 
 
 class Choice(Trial):
@@ -124,7 +139,7 @@ class Choice(Trial):
         for wanted, change in ((0, ""), (1, "1\n")):
             (self.top / "crates/program/stdout").write_text(change or "2\n", encoding="utf-8")
             said = io.StringIO()
-            with mock.patch.object(try_tests, "COMMAND", ["sh", str(script)]), mock.patch.object(try_tests, "TOP", self.top), \
+            with mock.patch.object(try_tests, "COMMAND", ["sh", str(script)]), mock.patch.object(try_tests, "TOP", self.top), mock.patch.object(try_tests, "kit_for_trials"), \
                     mock.patch("sys.argv", ["try_tests.py", "--jobs", "2"]), contextlib.redirect_stdout(said):
                 with self.assertRaises(SystemExit) as ended:
                     try_tests.main()

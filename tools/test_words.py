@@ -12,7 +12,7 @@ from pathlib import Path
 TOP = Path(__file__).resolve().parent.parent
 SCRIPTS = sorted(path.name for path in (TOP / "tools").glob("*.py") if not path.name.startswith("test_"))
 # What of the repository the scripts read and write; what rt and cargo make is left out.
-PARTS = ("tools", "crates", "docs", "bench", "crates.txt", "HANDLES", "README.md", "run", "test")
+PARTS = ("tools", "crates", "docs", "bench", "crates.txt", "HANDLES", "README.md", "CONTRIBUTING.md", "run", "test")
 MADE = shutil.ignore_patterns("out", "target", "__pycache__")
 
 

@@ -16,15 +16,16 @@ EXPLAINED = {
     'GONE': 'what follows may vanish from the print, and a look before it tests it. Test what surely stays, or don\'t let it vanish.',
     'KEPT': 'a `when` may turn the other way in the print, because the terminal that it tests is printed otherwise. '
             'Let the form keep its first token, or use a look that holds of both terminals or of neither.',
-    'END': 'the content of a group may end where a vanishing part requires that nothing of the kind follows.',
-    'ENDED': 'a rule\'s last part requires that the stream doesn\'t end. Every rule must be readable alone.',
-    'SUPPLIED': 'the name before a supplied `_ :` may read or print nothing.',
+    'END': 'the content of a group may end where a vanishing part requires that nothing of the kind follows. As SHUN.',
+    'ENDED': 'a rule\'s last part requires that the stream doesn\'t end. Every rule must be readable alone: move the condition to the rule that calls it.',
+    'SUPPLIED': 'the name before a supplied `_ :` may read or print nothing. Let it keep its first token in the print.',
     'WILD': 'a supplied `_` would be printed as something that is taken for a nameless form again.',
     'NAMED': 'a written name may be printed as something that is taken for a nameless form.',
     'OPEN': 'a captured part must end by itself (with a group or a mark that tests nothing) and read at least one token.',
-    'LEAD': 'each member of such generics must begin a parameter in the print too, and what follows them must read and print something and end by itself.',
-    'LIST': 'a member of a list may read or print nothing, or begins with `>`.',
-    'MEMBER': 'a member of a list tests what follows it, and the result differs for `,` and `>`.',
+    'LEAD': 'each member of such generics must begin a parameter in the print too, and what follows them must read and print something and end by itself. '
+            'Begin each member with `#`, a lifetime, `const`, or a name after which no type continues.',
+    'LIST': 'a member of a list may read or print nothing, or begins with `>`. Move the optional part after one that is always there.',
+    'MEMBER': 'a member of a list tests what follows it, and the result differs for `,` and `>`. Narrow the look.',
     'UNION': 'two alternatives of a union may read the same stream. Let one turn away where the other reads (`when look then never else ..`), '
              'or make them one rule with a choice by the next token.',
     'LEFT': 'a rule calls itself before it has read anything. Write the repetition to the right: an operand, and then the others.',

@@ -1,10 +1,11 @@
-"""The table of rules in docs/GRAMMAR.md: each rule with the sentence above it in the grammar, and its reader."""
+"""The table of rules in docs/reference/RULES.md: each rule in the sentence above it in the table, and what reads it."""
 import re
 
 from .lists import RULE, read_lists
 from .source import Fault
 
-UNREAD = "not read yet"
+UNREAD = "recognized alone"
+NEVER = "nothing"
 WITHIN = "within others"
 HEAD = "| rule | in words | Rust |\n|---|---|---|\n"
 READ = re.compile(r"^impl Read for (\w+) \{\n    ghost form = \{ of \(rule rules\.(\w+)\) \};", re.M)
@@ -13,15 +14,15 @@ FUNCTION = re.compile(r"^((?: *#\[[^\n]*\]\n)*)( *)(pub )?(?:pub\(\w+\) )?fn (\w
 
 
 def by_hand(source, others):
-    """The path and the text of each file by hand, of this crate, the one below it and the others."""
-    return [(f"{it.crate.name}/{file.as_posix()}", text) for it in (source.below, source, *others) if it for file, text in it.hand.items()]
+    """Each file of types that is written by hand, here, in the crate below and in those beside it, by its crate and its path there."""
+    return [(f"{it.crate.name}/src/{file.as_posix()}", text) for it in (source.below, source, *others) if it for file, text in it.hand.items()]
 
 
 def readers(source, lists, others):
     """The readers of each rule: the types with a `Read` by it; or else the functions whose contract names it, public ones first, and the levels
     of operators; or else the functions whose proof uses its equation."""
     types, opened = {}, {}
-    functions = {rule: [(False, f"`{rule}` of `{source.crate.name}/comma_lists.rt`")] for rule in lists}
+    functions = {rule: [(False, f"`{rule}` of `{source.crate.name}/src/comma_lists.rt`")] for rule in lists}
     for file, text in by_hand(source, others):
         for name, rule in READ.findall(text):
             types.setdefault(rule, []).append(f"`{name}`")
@@ -60,7 +61,8 @@ def rows(source, table, page, *others):
     after = rest[re.search(r"^(?!\|)", rest, re.M).start():]
     lines, rules = "", RULE.findall(table.read_text())
     within = within_others({rule: form for _, rule, form in rules}, found)
-    for words, rule, _ in rules:
+    for words, rule, form in rules:
         sentence = " ".join(line[3:] for line in words.splitlines())
-        lines += f"| `{rule}` | {sentence} | {', '.join(found.get(rule, [WITHIN if rule in within else UNREAD]))} |\n"
+        other = NEVER if form.strip() == "never" else WITHIN if rule in within else UNREAD
+        lines += f"| `{rule}` | {sentence} | {', '.join(found.get(rule, [other]))} |\n"
     return before + HEAD + lines + after

@@ -467,7 +467,7 @@ def compared_lemmas(source, t, body):
     attributes = [f"{source.root()}::proofs::Attributes::same_attributes"] if t.has_attributes() else []
     if has_body(t):
         between = [kind for field, kind in t.fields if not BODY_TYPES.fullmatch(kind) and kind != ATTRIBUTES and is_compared(source, t, kind)]
-        attributes = [f"{source.root()}::proofs::Bodies::same_behind_{NUMBERS[len(between)]}"]
+        attributes = [f"{source.root()}::proofs::Bodies::same_after_{NUMBERS[len(between)]}"]
     return attributes + lemmas(source, t, "compare", body)
 
 

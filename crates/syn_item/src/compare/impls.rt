@@ -101,7 +101,7 @@ impl Eq for ImplItemConst {
 }
 
 impl Compared for ImplItemFn {
-    #[tactic(auto, using(syn_lower::proofs::Bodies::same_behind_three))]
+    #[tactic(auto, using(syn_lower::proofs::Bodies::same_after_three))]
     fn is_same(&self, other: &ImplItemFn) -> bool {
         self.attrs.is_same(&other.attrs)
             && self.vis.is_same(&other.vis)

@@ -2,7 +2,7 @@
 //!
 //! Each test is proved, and a proof grows with every way out of a function and with what is owned there. So a test returns
 //! nothing: it takes its values by `value`, and hands trees to functions that assert, which are proved once for trees of all
-//! types. Where memory is refused, `value` says so, and a script tells that from other failures.
+//! types. Where memory is refused, the test fails with that error.
 use std::alloc::Global;
 use std::fmt::Debug;
 use std::process::Abort;

@@ -77,7 +77,8 @@ fn put_into_another(rt: HostRuntime) {
     assert!(rt; around.is_empty());
 }
 
-/// Beside `built_once` for `tools/scarce_memory.py copies`, which refuses each request of the copy: there is one.
+/// A copy of a stream takes memory once, however deep the stream is: with `rt try --test --fail-alloc N` exactly one N fails this test
+/// and not `built_once`.
 #[test]
 fn copied_once(rt: HostRuntime) -> Result<()> {
     assert!(rt; is_copied(&nested(rt.alloc(), 50)?)?);
