@@ -66,10 +66,11 @@ LANES = 2
 
 def lacking(trial):
     """The public functions of the trial's crate that no edit and no operator changes."""
-    mutants = Mutants(trial.source, trial.lower)
     changed = {name for edit in trial.edits for name in edit.functions}
-    changed |= {f"{trial.crate.name}::{it.name}" for path, it in mutants.functions if mutants.of(path, it)}
-    return [name for name in trial.source.public() if name not in changed]
+    unchanged = [name for name in trial.source.public() if name not in changed]
+    mutants = Mutants(trial.source, trial.lower)
+    functions = {f"{trial.crate.name}::{it.name}": (path, it) for path, it in mutants.functions}
+    return [name for name in unchanged if name not in functions or not mutants.of(*functions[name])]
 
 
 def unnamed(trial):

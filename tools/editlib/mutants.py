@@ -5,6 +5,7 @@ other ones, and of each function another operator and another of its changes is 
 """
 
 import hashlib
+from collections import Counter
 from dataclasses import dataclass
 from functools import cached_property
 
@@ -65,10 +66,10 @@ class Mutants:
 
     @cached_property
     def functions(self):
-        """The functions that have a contract and a name of their own, in the order of their hashes."""
+        """The functions that have a contract, also by their trait, and a name of their own, in the order of their hashes."""
         own = [(path, it) for path, functions in self.source.functions.items() for it in functions if it.body]
-        names = [it.name for _, it in own]
-        found = [(path, it) for path, it in own if names.count(it.name) == 1 and self.source.clauses_of(f"{self.source.name}::{it.name}")]
+        names = Counter(it.name for _, it in own)
+        found = [(path, it) for path, it in own if names[it.name] == 1 and (it.clauses or it.trait)]
         return sorted(found, key=lambda it: number_of(it[1].name))
 
     def of(self, path, function):

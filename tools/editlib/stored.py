@@ -4,8 +4,8 @@
     clause = 'reads'
     function = 'buffer::ParseBuffer::read_name'
     file = 'src/buffer/leaves.rt'
-    old = '        if ident.is_keyword() {'
-    new = '        if false {'
+    old = 'if ident.is_keyword() {'
+    new = 'if false {'
 
 The old text occurs once in that function, or in the file where no function is named. Each further change of the edit is a table
 `[[NAME.also]]` with `function`, `file`, `old` and `new`; it applies to what the earlier changes made. An edit that breaks several
@@ -20,7 +20,7 @@ import tomllib
 
 from editlib.edits import Change, Edit, Unfit
 
-HEAD = """# Wrong bodies that the prover has to refuse: see docs/GATE.md. Sorted by name; `tools/try_edits.py --record` rewrites this file.
+HEAD = """# Wrong bodies that the prover has to refuse: see tools/try_edits.py. Sorted by name; `tools/try_edits.py --record` rewrites this file.
 """
 CHANGE = ("function", "file", "old", "new")
 

@@ -17,6 +17,7 @@ class Types:
 
     def __init__(self, texts):
         self.texts = {path: blanked(text) for path, text in texts.items()}
+        self.methods_by_path = {}
 
     @cached_property
     def fields(self):
@@ -47,10 +48,13 @@ class Types:
 
     def methods(self, path):
         """The same of the methods of a file."""
+        if path in self.methods_by_path:
+            return self.methods_by_path[path]
         found = {}
         for name, generic, inside, result in METHOD.findall(self.texts.get(path, "")):
             found.setdefault(name, set()).add(signature(generic, inside, result))
-        return {name: it.pop() for name, it in found.items() if len(it) == 1}
+        self.methods_by_path[path] = {name: it.pop() for name, it in found.items() if len(it) == 1}
+        return self.methods_by_path[path]
 
 
 def signature(generic, inside, result):

@@ -1,6 +1,7 @@
 """Operators on statements and calls: prints, reads, steps."""
 
 import re
+from functools import lru_cache
 
 from editlib.body import parts
 
@@ -103,6 +104,7 @@ def function_exchanged(body):
                 yield match.start(), match.end(), next_of(others, match[1])
 
 
+@lru_cache(maxsize=64)
 def names_here(text):
     """The free functions that a file has or imports."""
     own = re.findall(r"(?m)^(?:pub(?:\([^)]*\))? )?(?:const )?fn (\w+)", text)
