@@ -37,7 +37,8 @@ is tried again in smaller packs, until it is alone.
 
 A mutant is what an operator (editlib/operators) makes of the body of a function that has a contract. It names no clause: the prover
 has to refuse the function by any goal, but for one that says only that an index or a sum is in range. What doesn't compile counts for
-nothing. tools/equivalent_edits.txt lists the mutants that mean the same as the code; they aren't tried.
+nothing. tools/equivalent_edits.txt lists the mutants that mean the same as the code; they aren't tried. Beside edits (--minutes) a mutant
+that is not refused is reported, and the status stays 0: it may mean the same as the code. With --operators it is an error.
 
 The libraries below are taken as `rt ci` left them, or built by `rt lib` where there are none. Whether the crate is proved as
 it is isn't asked. The edits of two crates are tried side by side.
@@ -167,7 +168,8 @@ def tell(options, trials):
         trial.wrong += [] if options.record else unnamed(trial)
     for some in [] if options.check else [edits, mutants]:
         try_all(some, options.record, 1 if options.one_by_one else LANES)
-    wrong = [f"{trial.crate.name}/{it}" for trial in [*edits, *mutants] for it in trial.wrong]
+    wrong = [f"{trial.crate.name}/{it}" for trial in (mutants if options.operators else edits) for it in trial.wrong]
+    unsettled = [] if options.operators else [f"{trial.crate.name}/{it}" for trial in mutants for it in trial.wrong]
     number = sum(len(trial.edits) + len(trial.unfit) for trial in edits)
     refused = sum(len(trial.refused) for trial in edits)
     print(*wrong, sep="\n", end="\n" if wrong else "")
@@ -175,7 +177,7 @@ def tell(options, trials):
     if late:
         print(f"NOT TRIED, no time was left: {late}")
     if mutants and not options.check:
-        print(summary(mutants))
+        print(*unsettled, summary(mutants), sep="\n")
     used = resource.getrusage(resource.RUSAGE_CHILDREN)
     times = f"{time.monotonic() - start:.0f} s, {used.ru_utime + used.ru_stime:.0f} s of processors"
     print(f"{number} edits, {len(wrong)} wrong" if options.check else f"{refused} of {number} refused, {len(wrong)} wrong, {times}")
