@@ -77,6 +77,9 @@ def stands_alone(t):
 SMALLER_LISTS = "proofs::Smaller::lists"
 SMALLER = {"TypePath": ["crate::proofs::Smaller::qself_smaller", "crate::proofs::Smaller::path_smaller"]}
 
+# Fields of a `Copy` type that are copied by a call all the same: the search proves the last exits of this function only then.
+COPIED_BY_CALLS = {"Signature": ("safety", "fn_token")}
+
 # the lemmas for a type whose view arranges its fields in a form of its own: for its print, its copy and its comparison (with the crate's
 # name where several crates have a type of this name). `whole` is for a comparison, and covers the attributes too
 FORMS = "crate::proofs::Forms"
@@ -264,7 +267,7 @@ def nested_copy(source, t, place, kind, uses):
 
 def copied(source, t, field, kind, uses):
     """How a field is copied."""
-    if source.is_plain_copy(t, kind):
+    if source.is_plain_copy(t, kind) and field not in COPIED_BY_CALLS.get(t.name, ()):
         return f"self.{field}"
     if source.is_empty(kind):
         return empty_copy(t, field, kind, uses)

@@ -12,9 +12,9 @@ impl TryClone for Signature {
         Ok(Signature {
             constness: self.constness,
             asyncness: self.asyncness,
-            safety: self.safety,
+            safety: self.safety.try_clone(alloc)?,
             abi: self.abi.try_clone(alloc)?,
-            fn_token: self.fn_token,
+            fn_token: self.fn_token.try_clone(alloc)?,
             ident: self.ident.try_clone(alloc)?,
             generics: self.generics.try_clone(alloc)?,
             paren_token: self.paren_token,
