@@ -35,6 +35,7 @@ returns-in-Ok-Some-clause-moved c =
     foreign_moved ts a m outer t r read
 
 pub returns-in_ok-kept_tokens-in-Ok-None-clause-reads : goal.returns-in_ok-kept_tokens-in-Ok-None-clause-reads
+unfolding Rattle.syn_recognize.specs.Names.rule_of
 returns-in_ok-kept_tokens-in-Ok-None-clause-reads c =
     let ts = c.args.input.now in
     let a = attributes_syntax c.in_ok-attrs.attrs.items in
@@ -47,6 +48,7 @@ returns-in_ok-kept_tokens-in-Ok-None-clause-reads c =
     foreign_kept ts a m outer kept tokens r copied
 
 pub returns-in_ok-kept_tokens-in-Ok-None-clause-moved : goal.returns-in_ok-kept_tokens-in-Ok-None-clause-moved
+unfolding Rattle.syn_recognize.specs.Names.rule_of
 returns-in_ok-kept_tokens-in-Ok-None-clause-moved c =
     let ts = c.args.input.now in
     let a = attributes_syntax c.in_ok-attrs.attrs.items in

@@ -25,6 +25,7 @@ returns-in-Ok-Some-clause-moved c =
     item_moved ts a m outer (syntax_of_Item c.in-Ok-Some.item) c.item_behind.new.input told
 
 pub returns-in_ok-kept_tokens-in-Ok-None-clause-reads : goal.returns-in_ok-kept_tokens-in-Ok-None-clause-reads
+unfolding Rattle.syn_recognize.specs.Names.rule_of
 returns-in_ok-kept_tokens-in-Ok-None-clause-reads c =
     let ts = c.args.input.now in
     let a = attributes_syntax c.in_ok-attrs.attrs.items in
@@ -35,6 +36,7 @@ returns-in_ok-kept_tokens-in-Ok-None-clause-reads c =
     item_kept ts a m outer kept c.in_ok-kept_tokens-in-Ok-None.field-0 c.kept_tokens.new.input copied
 
 pub returns-in_ok-kept_tokens-in-Ok-None-clause-moved : goal.returns-in_ok-kept_tokens-in-Ok-None-clause-moved
+unfolding Rattle.syn_recognize.specs.Names.rule_of
 returns-in_ok-kept_tokens-in-Ok-None-clause-moved c =
     let ts = c.args.input.now in
     let a = attributes_syntax c.in_ok-attrs.attrs.items in
