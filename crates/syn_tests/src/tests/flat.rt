@@ -6,7 +6,8 @@ use std::process::Abort;
 use syn::canon::Stmts;
 use syn::item::ItemFn;
 use syn::parse::{Parse, ParseBuffer};
-use syn::{Block, Expr, Result, Stmt, parse2};
+use syn::stmt::{Block, Stmt};
+use syn::{Expr, Result, parse2};
 
 /// More links than the stack has room for.
 const MANY: usize = 2_000;
