@@ -32,8 +32,8 @@ IN_PATTERNS = re.compile(r"[A-Za-z_][A-Za-z_0-9]*|[(){},|:_.]|::")
 
 def tokens_of(text):
     """The tokens of a source, each with its line."""
-    blank = NO_CODE.sub(lambda found: re.sub(r"[^\n]", " ", found.group()), text)
-    return [(found.group(), blank.count("\n", 0, found.start()) + 1) for found in TOKEN.finditer(blank)]
+    lines = NO_CODE.sub(lambda found: "\n" * found.group().count("\n") or " ", text).split("\n")
+    return [(word, number) for number, line in enumerate(lines, 1) for word in TOKEN.findall(line)]
 
 
 def closing(tokens, place):
@@ -107,6 +107,8 @@ def is_made(tokens, place):
 
 def made_in(text):
     """The lines of a source where a value is made."""
+    if not any(name in text for name in NAMES):
+        return []
     tokens = tokens_of(text) + [("", 0)]
     return [tokens[place][1] for place in bodies(tokens) if is_made(tokens, place)]
 
