@@ -220,7 +220,7 @@ impl<'a> ParseBuffer<'a> {
     }
 
     /// The remaining tokens after the next tree; a lifetime counts as one tree.
-    fn past(&self) -> ParseBuffer<'a>
+    pub fn past(&self) -> ParseBuffer<'a>
         ensures { result ≡ past self.now }
     {
         let tokens = match self.tokens.split() {

@@ -33,6 +33,7 @@ pub mod TypeLooks
 pub mod Restricted
 pub mod Nameless
 pub mod PathLooks
+pub mod Passed
 pub mod ItemLooks
 pub mod ParameterLooks
 pub mod MacroLooks

@@ -25,7 +25,7 @@ pub(crate) fn read_hidden<'a>(
 ) -> Parsed<()>
     ensures { Steps IsSyntax steps.old.items (copy_form (vanishing true (look_of look.now) (grammar_of form.now)) out.old input.now) result steps.new.items out.new input.now }
 {
-    if !holds(look, input)? {
+    if !holds(look, input) {
         return Ok(());
     }
     let before = out.drop_aside()?;

@@ -159,7 +159,7 @@ fn turn<'a>(
 ) -> Parsed<()>
     ensures { Steps IsSyntax steps.old.items (copy_guess guess (turns (look_of look.now) (course_of one.now) (course_of other.now)) out.now input.now) result steps.new.items out.now input.now }
 {
-    if holds(look, input)? {
+    if holds(look, input) {
         steps.push(Step::Plan(one, guess))?;
     } else {
         steps.push(Step::Plan(other, guess))?;
@@ -431,7 +431,7 @@ fn read_self_type<'a>(
 ) -> Parsed<()>
     ensures { Guessing IsSyntax steps.old.items (copy_guess guess (self_type (course_of plan.now)) out.old input.now) result steps.new.items out.new input.now }
 {
-    let guess = compared(guess, leads_on(input)?, out)?;
+    let guess = compared(guess, leads_on(input), out)?;
     steps.push(Step::Plan(plan, guess))?;
     steps.push(Step::Form(&SELF_TYPE))?;
     Ok(())
@@ -455,15 +455,14 @@ fn compared(guess: Guess, it: bool, out: &mut Writer) -> Parsed<Guess>
     }
 }
 
-/// Whether generics would be read after the `for` that is next. Refused only where memory is.
+/// Whether generics would be read after the `for` that is next.
 #[tactic(auto, using(crate::proofs::Guessed::for_led, crate::proofs::Guessed::for_lacks))]
-fn leads_on(input: &ParseBuffer<'_>) -> Parsed<bool>
-    ensures { OrMemory IsSyntax result (λ answer. answer ≡ leads_on input.now) }
+fn leads_on(input: &ParseBuffer<'_>) -> bool
+    ensures { result ≡ leads_on input.now }
 {
     let mut ahead = input.fork();
-    match ahead.read::<For>() {
-        Ok(_) => Ok(at_generics(&ahead)),
-        Err(Refusal::Memory(at)) => Err(Refusal::Memory(at)),
-        Err(Refusal::Syntax { .. }) => Ok(false),
+    match ahead.read_word("for", "expected `for`") {
+        Ok(_) => at_generics(&ahead),
+        Err(_) => false,
     }
 }

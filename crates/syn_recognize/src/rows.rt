@@ -62,7 +62,7 @@ pub(crate) fn read_row<'a>(
     if input.peek::<Gt>() {
         return Ok(());
     }
-    if at_first(list, input)? {
+    if at_first(list, input) {
         return read_first(list, number, steps, out, input);
     }
     if out.is_printing() {
@@ -203,7 +203,7 @@ pub(crate) fn read_others<'a>(
     if input.peek::<Gt>() {
         return no_more(&late, out);
     }
-    if at_first(list, input)? {
+    if at_first(list, input) {
         return read_late(list, late, steps, out, input);
     }
     read_another(list, late, steps, out, input)

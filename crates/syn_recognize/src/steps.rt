@@ -257,7 +257,7 @@ fn below<'a>(
 {
     match form {
         Form::Then(one, other) => Ok(Some(put_off(one, other, steps, out, input)?)),
-        Form::When(look, one, other) => Ok(Some(choose(look, one, other, next, out, input)?)),
+        Form::When(look, one, other) => Ok(Some(choose(look, one, other, next, out, input))),
         Form::Rule(rule) => Ok(Some(begin_rule(*rule, next, steps, out, input)?)),
         Form::Part(part) => Ok(Some(begin_part(*part, out, input))),
         Form::Only(rule) => Ok(Some(begin_only(*rule, out, input))),
@@ -306,14 +306,14 @@ fn choose(
     next: First,
     out: &Writer,
     input: &ParseBuffer<'_>,
-) -> Parsed<&'static Form>
+) -> &'static Form
     requires { Begins next input.now }
-    ensures { OrMemory IsSyntax result (λ first. copy_form (when (look_of look.now) then (grammar_of one.now) else (grammar_of other.now)) out.now input.now ≡ copy_form (grammar_of first.now) out.now input.now) }
+    ensures { copy_form (when (look_of look.now) then (grammar_of one.now) else (grammar_of other.now)) out.now input.now ≡ copy_form (grammar_of result.now) out.now input.now }
 {
-    if holds_next(look, next, input)? {
-        Ok(one)
+    if holds_next(look, next, input) {
+        one
     } else {
-        Ok(other)
+        other
     }
 }
 

@@ -327,7 +327,7 @@ fn copy_str(out: &mut Writer, input: &mut ParseBuffer<'_>) -> Parsed<()>
 {
     let mut ahead = input.fork();
     let literal: Literal = ahead.read()?;
-    if !is_string(&literal) {
+    if !is_string(literal.kind()) {
         return Err(input.refusal("expected string literal"));
     }
     input.advance_to(&ahead);

@@ -99,7 +99,7 @@ fn statement_in<N: Nested>(place: Place, nested: &N, input: &mut ParseBuffer<'_>
 fn at_item_statement(place: Place, input: &ParseBuffer<'_>) -> Parsed<bool>
     ensures { OrMemory IsSyntax result (λ b. b ≡ item_next (is_listed place) input.now) }
 {
-    if at_item(input)? {
+    if at_item(input) {
         return Ok(true);
     }
     match place {
@@ -146,7 +146,7 @@ fn statement_after<N: Nested>(
 {
     if at_crate_macro(input) {
         crate_macro_statement(place, attrs, nested, input)
-    } else if at_brace_macro(input)? {
+    } else if at_brace_macro(input) {
         macro_statement(place, attrs, nested, input)
     } else if input.peek::<Let>() {
         local(attrs, nested, input)
