@@ -347,7 +347,8 @@ pub fn at_str(input: &ParseBuffer<'_>) -> Parsed<bool>
 {
     match input.fork().read::<Literal>() {
         Ok(literal) => Ok(is_string(&literal)),
-        Err(Refusal::Memory(at)) => Err(Refusal::Memory(at)),
+        Err(Refusal::Memory(error)) => Err(Refusal::Memory(error)),
+        Err(Refusal::TooDeep(span)) => Err(Refusal::TooDeep(span)),
         Err(Refusal::Syntax { .. }) => Ok(false),
     }
 }

@@ -11,6 +11,7 @@ use crate::form::Form;
 use crate::rules::{Part, Rule};
 use syn_parse::buffer::ParseBuffer;
 use syn_parse::read::refusal::{Parsed, Refusal};
+use syn_tokens::span::Span;
 use syn_tokens::lifetime::Lifetime;
 use syn_tokens::token::{Pound, kind};
 
@@ -71,7 +72,7 @@ fn at_lifetime_parameter(input: &ParseBuffer<'_>) -> Parsed<bool>
     let mut ahead = input.fork();
     'attributes: while ahead.peek::<Pound>() {
         let Ok(_pound) = ahead.read::<Pound>() else {
-            return Err(Refusal::Memory(None));
+            return Err(Refusal::TooDeep(Span::call_site()));
         };
         let Ok((_brackets, _content)) = ahead.read_group::<kind::Bracket>() else {
             return Ok(false);

@@ -61,7 +61,8 @@ pub fn at_integer(input: &ParseBuffer<'_>) -> Parsed<bool>
 {
     match input.fork().read::<Literal>() {
         Ok(literal) => Ok(is_integer(&literal)),
-        Err(Refusal::Memory(at)) => Err(Refusal::Memory(at)),
+        Err(Refusal::Memory(error)) => Err(Refusal::Memory(error)),
+        Err(Refusal::TooDeep(span)) => Err(Refusal::TooDeep(span)),
         Err(Refusal::Syntax { .. }) => Ok(false),
     }
 }

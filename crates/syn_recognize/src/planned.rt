@@ -6,7 +6,6 @@ ghost use Rattle.syn_grammar.specs.Take.{sees};
 ghost use Rattle.syn_grammar.specs.Tokens.{at_generics};
 ghost use Rattle.syn_grammar.specs.Leads.{leads_on};
 ghost use Rattle.syn_parse.specs.Refusals.{IsSyntax};
-ghost use Rattle.syn_parse.specs.declared.read.refusal.Refusal.TheVariants.{Memory};
 ghost use Rattle.syn_recognize.specs.Forms.{grammar_of};
 ghost use Rattle.syn_recognize.specs.Stages.{planned_form};
 ghost use Rattle.syn_recognize.specs.Courses.{behind_form, course_of, copy_guess, copy_course, led_by, by_roots, shown_generics, impl_parameters, guessed_generics, guessed_lists, no_parameters};
@@ -342,7 +341,7 @@ fn print_lists<'a>(
     ensures { Steps IsSyntax steps.old.items (guessed_lists (no_parameters input.old) leads (copy_course (course_of plan.now)) out.old input.old) result steps.new.items out.new input.new }
 {
     if !out.is_printing() {
-        return Err(Refusal::Memory(None));
+        return Err(Refusal::TooDeep(Span::call_site()));
     }
     if at_generics(input) {
         let mut ahead = input.fork();
@@ -437,11 +436,11 @@ fn read_self_type<'a>(
     Ok(())
 }
 
-/// Compares the guess with whether generics would be read here, and returns what is still guessed. A wrong guess returns `Refusal::Memory`.
+/// Compares the guess with whether generics would be read here, and returns what is still guessed. A wrong guess returns a refusal that is no syntax error.
 fn compared(guess: Guess, it: bool, out: &mut Writer) -> Parsed<Guess>
     ensures kept { IfOk result (λ g. g.kept ≡ guess.kept) }
     ensures leads { IfOk result (λ g. (q : Option Bool → Copy) → led_by guess.leads it q ≡ q g.leads) }
-    ensures memory { IfErr result (λ e. e ≡ Memory None) }
+    ensures memory { IfErr result (λ e. IsSyntax e → ⊥) }
     ensures unchanged { out.new ≡ out.old }
 {
     if !it {
@@ -463,7 +462,8 @@ fn leads_on(input: &ParseBuffer<'_>) -> Parsed<bool>
     let mut ahead = input.fork();
     match ahead.read::<For>() {
         Ok(_) => Ok(at_generics(&ahead)),
-        Err(Refusal::Memory(at)) => Err(Refusal::Memory(at)),
+        Err(Refusal::Memory(error)) => Err(Refusal::Memory(error)),
+        Err(Refusal::TooDeep(span)) => Err(Refusal::TooDeep(span)),
         Err(Refusal::Syntax { .. }) => Ok(false),
     }
 }
