@@ -35,7 +35,7 @@ pub(crate) fn told(alloc: Global, found: Result<String>) -> std::result::Result<
         Ok(text) => return Ok(text),
         Err(error) => error,
     };
-    if error.is_memory() {
+    if error.is_memory() || error.is_too_deep() {
         return Err(Failure::OutOfMemory);
     }
     let start = error.span().start;

@@ -20,7 +20,7 @@ use Rattle.syn_grammar.proofs.ListedItems.{listing_begins, listing_goes_on, list
 use Rattle.syn_tokens.specs.Cursors.{before_next}
 use Rattle.syn_tokens.specs.declared.stream.cursor.TokenTreeRef.{TokenTreeRef}
 use Rattle.syn_tokens.specs.declared.stream.cursor.TokenTreeRef.TheVariants as N
-use Rattle.syn_tokens.specs.Faults.{FaultValue, IsSyntaxError}
+use Rattle.syn_tokens.specs.Faults.{ErrorValue, IsSyntaxError}
 use Rattle.syn_parse.specs.Refusals.{IsSyntax, IsRefusedAs}
 use Rattle.syn_parse.specs.declared.read.refusal.Refusal.{Refusal}
 use Rattle.syn_parse.proofs.Refused.{refused_by_syntax}
@@ -141,7 +141,7 @@ pub same_err : {X : Type 0} (r : Result X Refusal) (e : Refusal) (P : Type 0) �
 same_err (Ok x) e P h n = absurd h
 same_err (Err f) e P h n = λ s. n (subst IsSyntax h s)
 
-pub listed_err : {X : Type 0} (ts : Stream) (r : Result X (List FaultValue)) (e : Refusal) → IsErrAnd r (λ f. IsRefusedAs e f) → (IsSyntax e → Refused rules.file ts) →
+pub listed_err : {X : Type 0} (ts : Stream) (r : Result X ErrorValue) (e : Refusal) → IsErrAnd r (λ f. IsRefusedAs e f) → (IsSyntax e → Refused rules.file ts) →
     IfErr r (λ f. visible ts ≡ true → IsSyntaxError f → Refused rules.file ts)
 listed_err ts (Ok x) e h n = absurd h
 listed_err ts (Err f) e h n = λ v s. n (refused_by_syntax e f h s)

@@ -56,7 +56,8 @@ pub(crate) fn told(refusal: Refusal, rule: Rule, tokens: &TokenStream) -> Refusa
     ensures { IsSyntax result ↔ IsSyntax refusal }
 {
     match refusal {
-        Refusal::Memory(at) => Refusal::Memory(at),
+        Refusal::Memory(error) => Refusal::Memory(error),
+        Refusal::TooDeep(span) => Refusal::TooDeep(span),
         Refusal::Syntax { span, text } => {
             let fault = fault_of(Fault { span, text }, rule, tokens);
             Refusal::Syntax {

@@ -18,6 +18,7 @@ use syn_parse::read::refusal::{Parsed, Refusal};
 use syn_recognize::{Rule, read_by};
 use syn_tokens::error::Result;
 use syn_tokens::ident::Ident;
+use syn_tokens::span::Span;
 use syn_tokens::stream::TokenStream;
 
 // Written by tools/kinds.py down to the next such comment; edits are lost.
@@ -97,7 +98,8 @@ fn try_kind(kind: ItemKind, input: &mut ParseBuffer<'_>) -> Parsed<bool>
             Ok(true)
         }
         Err(Refusal::Syntax { .. }) => Ok(false),
-        Err(Refusal::Memory(at)) => Err(Refusal::Memory(at)),
+        Err(Refusal::Memory(error)) => Err(Refusal::Memory(error)),
+        Err(Refusal::TooDeep(span)) => Err(Refusal::TooDeep(span)),
     }
 }
 
@@ -226,7 +228,7 @@ fn listed_to_end(tokens: &TokenStream) -> Parsed<Vec<ListedItem>>
         let item = read_item(&mut input)?;
         list.push(item)?;
     }
-    Err(Refusal::Memory(None))
+    Err(Refusal::TooDeep(Span::call_site()))
 }
 
 /// The items of a whole file, with the error messages that depend on several tokens.

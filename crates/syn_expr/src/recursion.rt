@@ -45,7 +45,7 @@ fn nested_expr<E: Carrier>(
     ensures parses { Parses E.is_syntax (λ e. whole e.value) (rule_of rung) input.old result input.new }
 {
     let Some(left) = inside.0.checked_sub(EXPRESSION) else {
-        return Err(E::carry(Refusal::Memory(Some(input.span()))));
+        return Err(E::carry(Refusal::TooDeep(input.span())));
     };
     let knot = Knot {
         expr: nested_expr::<E>,
@@ -68,7 +68,7 @@ fn nested_statements<E: Carrier>(
     ensures parses { MayParse E.is_syntax (λ v. statements_syntax v.items) rules.statements input.old result input.new }
 {
     let Some(left) = inside.0.checked_sub(EXPRESSION) else {
-        return Err(E::carry(Refusal::Memory(Some(input.span()))));
+        return Err(E::carry(Refusal::TooDeep(input.span())));
     };
     let knot = Knot {
         expr: nested_expr::<E>,

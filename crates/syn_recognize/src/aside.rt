@@ -75,6 +75,6 @@ pub(crate) fn capture<'a>(
     }
     match begin.between(input) {
         Ok(tokens) => Ok(out.append(&tokens)?),
-        Err(_memory) => Err(Refusal::Memory(None)),
+        Err(error) => Err(Refusal::Memory(error.into_alloc_error())),
     }
 }

@@ -1,6 +1,6 @@
 //! Deferred trees: trees that are stored as their tokens, and parsed when they are opened. A type may hold one that leads back to itself
 //! through its tree, because nothing that is stored, read, copied, compared, printed or dropped depends on the tree's type.
-ghost use Rattle.std.specs.Prelude.{◌≡◌, ◌↔◌, [], true, None, Some, IfOk, IfErr, OnOk, IsTrue};
+ghost use Rattle.std.specs.Prelude.{◌≡◌, ◌↔◌, [], true, None, Some, IfOk, IfErr, OnOk, IsTrue, alloc_error};
 ghost use Rattle.syn_grammar.specs.Tokens.{end};
 ghost use Rattle.syn_grammar.specs.Grammar.{rule, show, print, plain_syntax};
 ghost use Rattle.syn_grammar.specs.Run.{parse_rule};
@@ -11,7 +11,7 @@ ghost use Rattle.syn_parse.specs.Form.{of};
 ghost use Rattle.syn_parse.specs.Refusals.{IsSyntax};
 ghost use Rattle.syn_parse.specs.declared.read.refusal.Refusal.TheVariants.{Memory};
 ghost use Rattle.syn_parse.specs.Meanings.{meaning_of_rule};
-ghost use Rattle.syn_tokens.specs.Faults.{IsSyntaxError};
+ghost use Rattle.syn_tokens.specs.Faults.{IsSyntaxError, out_of_memory};
 ghost use Rattle.syn_tokens.specs.Comparison.{same_by, same_equiv, same_per};
 ghost use Rattle.syn_recognize.specs.Copies.{least};
 ghost use Rattle.syn_recognize.specs.DeferredTokens.{kind_rule, printed_or, read_as, IsDeferred, whole_only};
@@ -151,7 +151,7 @@ impl<const KIND: usize> Deferred<KIND> {
     /// nesting depth.
     pub fn open<T: TreeOf<KIND>>(&self) -> Result<T>
         ensures ok { IfOk result (λ tree. T.whole tree ≡ self.now) }
-        ensures memory { IfErr result (λ e. e ≡ []) }
+        ensures memory { IfErr result (λ e. e ≡ out_of_memory) }
     {
         let mut input = ParseBuffer::new(self.source());
         Ok(T::read_tree(&mut input)?)
@@ -171,12 +171,12 @@ impl<const KIND: usize> Deferred<KIND> {
 /// The print of a tree. Fails only where memory is refused.
 fn printed_tokens<T: ToTokens>(tree: &T, alloc: Global) -> Parsed<TokenStream>
     ensures print { IfOk result (λ stream. stream ≡ print (T.syntax tree.now)) }
-    ensures memory { IfErr result (λ e. e ≡ Memory None) }
+    ensures memory { IfErr result (λ e. e ≡ Memory alloc_error) }
 {
     let mut stream = TokenStream::new(alloc);
     match tree.to_tokens(&mut stream) {
         Ok(()) => Ok(stream),
-        Err(_memory) => Err(Refusal::Memory(None)),
+        Err(error) => Err(Refusal::Memory(error.into_alloc_error())),
     }
 }
 

@@ -55,6 +55,6 @@ fn stream_of(literal: Literal, alloc: Global) -> Parsed<TokenStream>
     let mut stream = TokenStream::new(alloc);
     match stream.push(TokenTree::Literal(literal)) {
         Ok(()) => Ok(stream),
-        Err(_) => Err(Refusal::Memory(None)),
+        Err(error) => Err(Refusal::Memory(error.into_alloc_error())),
     }
 }

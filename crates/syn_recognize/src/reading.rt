@@ -15,6 +15,7 @@ use crate::steps::take;
 use crate::writer::Writer;
 use syn_parse::buffer::ParseBuffer;
 use syn_parse::read::refusal::{Parsed, Refusal};
+use syn_tokens::span::Span;
 use syn_tokens::stream::TokenStream;
 
 /// Does all steps.
@@ -28,7 +29,7 @@ fn run<'a>(steps: &mut Vec<Step<'a>>, out: &mut Writer, input: &mut ParseBuffer<
         };
         take(step, steps, out, input)?;
     }
-    Err(Refusal::Memory(None))
+    Err(Refusal::TooDeep(Span::call_site()))
 }
 
 /// A copy of these tokens. Fails only where memory is refused.
@@ -37,7 +38,7 @@ pub(crate) fn copy_of(tokens: &TokenStream) -> Parsed<TokenStream>
 {
     match tokens.try_clone(tokens.alloc()) {
         Ok(copy) => Ok(copy),
-        Err(_) => Err(Refusal::Memory(None)),
+        Err(error) => Err(Refusal::Memory(error.into_alloc_error())),
     }
 }
 

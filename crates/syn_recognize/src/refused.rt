@@ -15,7 +15,8 @@ pub(crate) fn told(refusal: Refusal, form: &Form, input: &ParseBuffer<'_>) -> Re
     ensures { IsSyntax result → IsSyntax refusal }
 {
     match refusal {
-        Refusal::Memory(at) => Refusal::Memory(at),
+        Refusal::Memory(error) => Refusal::Memory(error),
+        Refusal::TooDeep(span) => Refusal::TooDeep(span),
         Refusal::Syntax { span, text } => Refusal::Syntax {
             span,
             text: text_of(text, form, input),

@@ -17,7 +17,7 @@ pub(crate) fn has_root_mark<'a>(begin: &ParseBuffer<'a>, input: &ParseBuffer<'a>
 {
     match begin.between(input) {
         Ok(tokens) => Ok(has_root(&tokens)),
-        Err(_memory) => Err(Refusal::Memory(None)),
+        Err(error) => Err(Refusal::Memory(error.into_alloc_error())),
     }
 }
 

@@ -78,8 +78,8 @@ fn take_other<'a>(
     ensures { Guessing IsSyntax steps.old.items (after step.entry (Reached out.old input.old)) result steps.new.items out.new input.new }
 {
     match step {
-        Step::Form(_) => Err(Refusal::Memory(None)),
-        Step::Levels(_, _) => Err(Refusal::Memory(None)),
+        Step::Form(_) => Err(Refusal::TooDeep(Span::call_site())),
+        Step::Levels(_, _) => Err(Refusal::TooDeep(Span::call_site())),
         Step::Close(delimiter, closing, rest) => leave(delimiter, closing, &rest, out, input),
         Step::Row(list, number) => read_row(list, number, steps, out, input),
         Step::RowRest(list, number) => read_row_rest(list, number, steps, out, input),
@@ -129,7 +129,7 @@ fn read_level<'a>(
     ensures { Leading IsSyntax steps.old.items (climb (to - level) level out.old input.old) result steps.new.items out.new input.new }
 {
     let Some(form) = behind(level) else {
-        return Err(Refusal::Memory(None));
+        return Err(Refusal::TooDeep(Span::call_site()));
     };
     steps.push(Step::Levels(level + 1, to))?;
     read_form(form, steps, out, input)
@@ -173,7 +173,7 @@ fn descend<'a>(
             },
         }
     }
-    Err(Refusal::Memory(None))
+    Err(Refusal::TooDeep(Span::call_site()))
 }
 
 /// After a form that reads nothing: the last deferred step, if it is a form.
@@ -237,7 +237,7 @@ fn next_level<'a>(
         return Ok(&EMPTY);
     }
     let Some(form) = behind(level) else {
-        return Err(Refusal::Memory(None));
+        return Err(Refusal::TooDeep(Span::call_site()));
     };
     steps.push(Step::Levels(level + 1, to))?;
     Ok(form)
@@ -403,14 +403,14 @@ fn read_leaf<'a>(
         Form::Hidden(look, form) => read_hidden(look, form, steps, out, input),
         Form::Captured(form) => read_captured(form, steps, out, input),
         Form::ByBraces(one, other) => read_value(one, other, steps, out, input),
-        Form::Planned(_) => Err(Refusal::Memory(None)),
+        Form::Planned(_) => Err(Refusal::TooDeep(Span::call_site())),
         Form::Supplied(nameless) => read_supplied(*nameless, steps, out, input),
-        Form::Then(_, _) => Err(Refusal::Memory(None)),
-        Form::When(_, _, _) => Err(Refusal::Memory(None)),
-        Form::Rule(_) => Err(Refusal::Memory(None)),
-        Form::Part(_) => Err(Refusal::Memory(None)),
-        Form::Shaped(_, _) => Err(Refusal::Memory(None)),
-        Form::Only(_) => Err(Refusal::Memory(None)),
+        Form::Then(_, _) => Err(Refusal::TooDeep(Span::call_site())),
+        Form::When(_, _, _) => Err(Refusal::TooDeep(Span::call_site())),
+        Form::Rule(_) => Err(Refusal::TooDeep(Span::call_site())),
+        Form::Part(_) => Err(Refusal::TooDeep(Span::call_site())),
+        Form::Shaped(_, _) => Err(Refusal::TooDeep(Span::call_site())),
+        Form::Only(_) => Err(Refusal::TooDeep(Span::call_site())),
     }
 }
 
@@ -426,7 +426,8 @@ fn copy_mark_else(
     let refusal = fault.refusal(input);
     match copy_mark(mark, out, input) {
         Ok(()) => Ok(()),
-        Err(Refusal::Memory(at)) => Err(Refusal::Memory(at)),
+        Err(Refusal::Memory(error)) => Err(Refusal::Memory(error)),
+        Err(Refusal::TooDeep(span)) => Err(Refusal::TooDeep(span)),
         Err(Refusal::Syntax { .. }) => Err(refusal),
     }
 }
@@ -532,7 +533,7 @@ fn all_of(input: &mut ParseBuffer<'_>) -> Parsed<TokenStream>
 {
     match input.rest() {
         Ok(all) => Ok(all),
-        Err(_) => Err(Refusal::Memory(None)),
+        Err(error) => Err(Refusal::Memory(error.into_alloc_error())),
     }
 }
 

@@ -11,7 +11,6 @@ ghost use Rattle.syn_recognize.specs.Written.{adds, enters, leaves, blank, unwri
 ghost use Rattle.syn_recognize.specs.Courses.{Fair};
 ghost use Rattle.syn_grammar.specs.Promises.{OrMemory};
 ghost use Rattle.syn_parse.specs.Refusals.{IsSyntax};
-ghost use Rattle.syn_parse.specs.declared.read.refusal.Refusal.TheVariants.{Memory};
 
 use crate::guess::Guess;
 use crate::late::Late;
@@ -179,13 +178,13 @@ impl Writer {
         if self.printing { Some(leads) } else { None }
     }
 
-    /// Records that a guess about a list or a plan was wrong, and returns `Refusal::Memory`.
+    /// Records that a guess about a list or a plan was wrong, and returns a refusal that is no syntax error.
     pub(crate) fn wrong_guess(&mut self) -> Refusal
-        ensures memory { result ≡ Memory None }
+        ensures memory { IsSyntax result → ⊥ }
         ensures unchanged { self.new ≡ self.old }
     {
         self.mistaken = true;
-        Refusal::Memory(None)
+        Refusal::TooDeep(Span::call_site())
     }
 
     /// Whether a guess about a list or a plan was wrong.
@@ -331,7 +330,7 @@ impl Writer {
         };
         match out.finish() {
             Ok(stream) => Ok((stream, notes)),
-            Err(_) => Err(Refusal::Memory(None)),
+            Err(_) => Err(Refusal::TooDeep(Span::call_site())),
         }
     }
 }

@@ -6,7 +6,7 @@ use Rattle.syn_grammar.specs.Take as grammar
 use Rattle.syn_grammar.specs.Tokens as grammar_span
 use Rattle.syn_tokens.specs.Spans.{at}
 use Rattle.syn_tokens.specs.Delimiters.{delimiter_of}
-use Rattle.syn_tokens.specs.Faults.{FaultValue}
+use Rattle.syn_tokens.specs.Faults.{ErrorValue}
 use Rattle.syn_tokens.specs.Entries.{encode, decode, IsFlat}
 use Rattle.syn_tokens.specs.Building.{OpenGroup, Building, innermost, around, is_open_in, is_open, out_of_group, open_delimiter, laid, groups_in, stream_in, building, closed_in, Closes, NotOpen, IsUnbalanced, unbalanced}
 use Rattle.syn_tokens.specs.Builders.{pending, places, front, IsBuilt, IsBegun}
@@ -295,7 +295,7 @@ module _ (m : ℕ) (es : List Entry) (ps : List Pending) (n : ℕ) (b : IsBuilt 
             ∙ ap (λ f. record { before = now.before; open_groups = l.around; stream = l.innermost.outer ⧺ group (delimiter_of f) (at l.innermost.opening) (at c) now.stream end }) there;
       }
 
-pub told : (s : Span) (reason : Type 0) (e : List FaultValue) → e ≡ unbalanced s → reason → IsUnbalanced s reason e
+pub told : (s : Span) (reason : Type 0) (e : ErrorValue) → e ≡ unbalanced s → reason → IsUnbalanced s reason e
 told s reason e is r = subst (IsUnbalanced s reason) (sym is) (refl, r)
 
 -- THE END

@@ -67,7 +67,7 @@ fn refuse_more(most: u32, level: &Level<'_>, span: Span) -> Parsed<()>
     ensures { OrMemory IsSyntax result (λ _. Unit {0}) }
 {
     if level.unended() > most {
-        return Err(Refusal::Memory(Some(span)));
+        return Err(Refusal::TooDeep(span));
     }
     Ok(())
 }

@@ -119,7 +119,8 @@ fn at_crate_item(input: &ParseBuffer<'_>) -> Parsed<bool>
     let mut behind = input.fork();
     match macro_invocation(&mut behind) {
         Ok(_) => Ok(at_postfix_mark(&behind)),
-        Err(Refusal::Memory(at)) => Err(Refusal::Memory(at)),
+        Err(Refusal::Memory(error)) => Err(Refusal::Memory(error)),
+        Err(Refusal::TooDeep(span)) => Err(Refusal::TooDeep(span)),
         Err(Refusal::Syntax { .. }) => Ok(false),
     }
 }

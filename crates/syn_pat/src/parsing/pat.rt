@@ -200,7 +200,7 @@ fn nested_pattern<E: Carrier>(
     ensures parses { Parses E.is_syntax syntax_of_Pat rules.pattern input.old result input.new }
 {
     let Some(left) = inside.0.checked_sub(PATTERN) else {
-        return Err(E::carry(Refusal::Memory(Some(input.span()))));
+        return Err(E::carry(Refusal::TooDeep(input.span())));
     };
     let knot = Knot {
         pat: nested_pattern::<E>,

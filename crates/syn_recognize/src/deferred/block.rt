@@ -9,7 +9,7 @@ ghost use Rattle.syn_grammar.specs.Promises.{Computes, itself};
 ghost use Rattle.syn_parse.specs.Form.{of};
 ghost use Rattle.syn_parse.specs.Meanings.{meaning_of_rule};
 ghost use Rattle.syn_parse.specs.Refusals.{IsSyntax};
-ghost use Rattle.syn_tokens.specs.Faults.{IsSyntaxError};
+ghost use Rattle.syn_tokens.specs.Faults.{IsSyntaxError, out_of_memory};
 ghost use Rattle.syn_tokens.specs.Comparison.{same_by, same_equiv, same_per};
 ghost use Rattle.syn_recognize.specs.DeferredTokens.{whole_only};
 
@@ -68,7 +68,7 @@ impl DeferredBlock {
     /// this nesting depth.
     pub fn open<B: BlockOf>(&self) -> Result<B>
         ensures ok { IfOk result (λ block. B.syntax block ≡ self.now) }
-        ensures memory { IfErr result (λ e. e ≡ []) }
+        ensures memory { IfErr result (λ e. e ≡ out_of_memory) }
     {
         let mut input = ParseBuffer::new(self.stmts.source());
         Ok(B::read_statements(self.brace_token, &mut input)?)

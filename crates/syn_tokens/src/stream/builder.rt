@@ -283,7 +283,7 @@ impl StreamBuilder {
     }
 
     /// The stream. It allocates nothing.
-    pub(crate) fn into_stream(self) -> TokenStream
+    pub fn into_stream(self) -> TokenStream
         requires { self.open_groups ≡ [] }
         ensures { result ≡ self.stream }
     {

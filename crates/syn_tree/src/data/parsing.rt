@@ -73,7 +73,7 @@ fn read_fields_named<E: Carrier>(
     ensures { Parses E.is_syntax itself rules.fields_named input.old result input.new }
 {
     let Some(left) = inside.0.checked_sub(FIELDS) else {
-        return Err(E::carry(Refusal::Memory(Some(input.span()))));
+        return Err(E::carry(Refusal::TooDeep(input.span())));
     };
     let knot = Knot {
         fields_named: read_fields_named::<E>,
@@ -213,7 +213,7 @@ fn nameless_fields<N: Nested>(nested: &N, input: &mut ParseBuffer<'_>) -> Parsed
     let _fields = nested.fields_named(input)?;
     match begin.between(input) {
         Ok(tokens) => Ok(tokens),
-        Err(_) => Err(Refusal::Memory(None)),
+        Err(error) => Err(Refusal::Memory(error.into_alloc_error())),
     }
 }
 
