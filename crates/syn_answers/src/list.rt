@@ -18,7 +18,6 @@ use syn_parse::read::refusal::{Parsed, Refusal};
 use syn_recognize::{Rule, read_by};
 use syn_tokens::error::Result;
 use syn_tokens::ident::Ident;
-use syn_tokens::span::Span;
 use syn_tokens::stream::TokenStream;
 
 // Written by tools/kinds.py down to the next such comment; edits are lost.
@@ -221,14 +220,11 @@ fn listed_to_end(tokens: &TokenStream) -> Parsed<Vec<ListedItem>>
     let mut input = ParseBuffer::new(tokens);
     read_by(Rule::INNER_ATTRIBUTES, &mut input)?;
     let mut list = Vec::new(tokens.alloc());
-    'items: for _item in 0..u64::MAX {
-        if input.is_empty() {
-            return Ok(list);
-        }
+    'items: while !input.is_empty() {
         let item = read_item(&mut input)?;
         list.push(item)?;
     }
-    Err(Refusal::TooDeep(Span::call_site()))
+    Ok(list)
 }
 
 /// The items of a whole file, with the error messages that depend on several tokens.

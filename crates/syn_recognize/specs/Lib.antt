@@ -6,8 +6,6 @@ pub mod Trailing
 pub mod Leaves
 pub mod PrintedRows
 pub mod Written
-pub mod Guesses
-pub mod Late
 pub mod Ordered
 pub mod Fading
 pub mod Supplied

@@ -38,7 +38,7 @@ pub(crate) fn read_hidden<'a>(
 pub(crate) fn forget(before: Box<Writer>, out: &mut Writer, input: &ParseBuffer<'_>) -> Parsed<()>
     ensures { Runs IsSyntax (forgetting before.value out.old input.now) result out.new input.now }
 {
-    let _dropped = out.put_back(before)?;
+    out.restore(before);
     Ok(())
 }
 
@@ -69,7 +69,7 @@ pub(crate) fn capture<'a>(
 ) -> Parsed<()>
     ensures { Runs IsSyntax (capturing before.value begin.now out.old input.now) result out.new input.now }
 {
-    let _dropped = out.put_back(before)?;
+    out.restore(before);
     if out.is_dropping() {
         return Ok(());
     }

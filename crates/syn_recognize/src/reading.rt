@@ -1,14 +1,13 @@
 //! Reads what a rule reads, step by step, without recursion.
-ghost use Rattle.std.specs.Prelude.{◌≡◌, None, IfErr};
+ghost use Rattle.std.specs.Prelude.{◌≡◌};
 ghost use Rattle.syn_grammar.specs.Run.{parse_rule};
 ghost use Rattle.syn_grammar.specs.Promises.{Kept, OrMemory, Takes};
 ghost use Rattle.syn_parse.specs.Refusals.{IsSyntax};
 ghost use Rattle.syn_recognize.specs.Copies.{Reached, copied, least};
 ghost use Rattle.syn_recognize.specs.Names.{rule_of};
 ghost use Rattle.syn_recognize.specs.Steps.{Runs, todo};
-ghost use Rattle.syn_recognize.specs.Printed.{Prints, ReadsBy, ShowsAndPrints};
+ghost use Rattle.syn_recognize.specs.Printed.{Prints, ReadsBy, Shows, ShowsAndPrints};
 
-use crate::notes::Notes;
 use crate::rules::{Rule, form_of};
 use crate::step::Step;
 use crate::steps::take;
@@ -52,20 +51,6 @@ fn write_rule(rule: Rule, out: &mut Writer, input: &mut ParseBuffer<'_>) -> Pars
     run(&mut steps, out, input)
 }
 
-/// Reads the rule, and writes its tokens. On failure, `mistaken` is whether a guess about lists and plans was wrong.
-fn write_guessing(
-    rule: Rule,
-    out: &mut Writer,
-    mistaken: &mut bool,
-    input: &mut ParseBuffer<'_>,
-) -> Parsed<()>
-    ensures { Runs IsSyntax (copied out.old (parse_rule (rule_of rule) input.old)) result out.new input.new }
-{
-    let done = write_rule(rule, out, input);
-    *mistaken = out.is_mistaken();
-    done
-}
-
 /// Reads what the rule reads, and stores none of it. Allocates only the deferred steps, and uses no stack. Fails at a token that the rule
 /// refuses, or where memory is refused; then nothing is known of the cursor.
 #[tactic(auto, using(crate::proofs::Shown::read, crate::proofs::Shown::not_read, crate::proofs::Shown::kept, crate::proofs::Shown::moved))]
@@ -86,96 +71,42 @@ pub struct ShownAndPrinted {
     pub printed: TokenStream,
 }
 
-/// Reads what the rule reads, once for its tokens as they are shown and once as they are printed. `notes` are the notes on lists and plans,
-/// or none as a guess. A wrong guess sets `mistaken` and returns `Refusal::Memory`.
-#[tactic(auto, using(crate::proofs::Shown::not_read))]
-fn both_by(
-    rule: Rule,
-    notes: Notes,
-    mistaken: &mut bool,
-    input: &mut ParseBuffer<'_>,
-) -> Parsed<ShownAndPrinted>
-    ensures reads { ShowsAndPrints IsSyntax (rule_of rule) input.old result input.new }
-    ensures kept { Kept input.old result input.new }
-    ensures moved { Takes (least (rule_of rule)) input.old result input.new }
+/// Reads what the rule reads, and writes its tokens as they are shown.
+#[tactic(auto, using(crate::proofs::Shown::shown, crate::proofs::Shown::not_read, crate::proofs::Shown::left_open))]
+fn shown_by(rule: Rule, input: &mut ParseBuffer<'_>) -> Parsed<TokenStream>
+    ensures { Shows IsSyntax (rule_of rule) input.old result input.new }
 {
-    let mut ahead = input.fork();
-    let mut out = Writer::showing(input.alloc(), notes);
-    write_guessing(rule, &mut out, mistaken, &mut ahead)?;
-    let (shown, notes) = out.finish()?;
-    let mut out = Writer::printing(input.alloc(), notes.anew());
-    write_guessing(rule, &mut out, mistaken, input)?;
-    let (printed, _notes) = out.finish()?;
-    Ok(ShownAndPrinted { shown, printed })
-}
-
-/// Reads what the rule reads, and writes its tokens as they are printed. `notes` are the notes on lists and plans. A wrong guess sets
-/// `mistaken` and returns `Refusal::Memory`.
-#[tactic(auto, using(crate::proofs::Shown::not_read, crate::proofs::Shown::kept, crate::proofs::Shown::moved))]
-fn printed_with(
-    rule: Rule,
-    notes: Notes,
-    mistaken: &mut bool,
-    input: &mut ParseBuffer<'_>,
-) -> Parsed<TokenStream>
-    ensures reads { Prints IsSyntax (rule_of rule) input.old result input.new }
-    ensures kept { Kept input.old result input.new }
-    ensures moved { Takes (least (rule_of rule)) input.old result input.new }
-{
-    let mut out = Writer::printing(input.alloc(), notes);
-    write_guessing(rule, &mut out, mistaken, input)?;
-    let (printed, _notes) = out.finish()?;
-    Ok(printed)
-}
-
-/// The notes on lists and plans in what the rule reads. Fails where the rule reads nothing, or where memory is refused.
-#[tactic(auto, using(crate::proofs::Shown::not_read))]
-fn noted(rule: Rule, input: &ParseBuffer<'_>) -> Parsed<Notes>
-    ensures { IfErr result (λ e. IsSyntax e → parse_rule (rule_of rule) input.now ≡ None) }
-{
-    let mut ahead = input.fork();
-    let mut out = Writer::noting(input.alloc());
-    write_rule(rule, &mut out, &mut ahead)?;
-    let (_nothing, notes) = out.finish()?;
-    Ok(notes)
-}
-
-/// Reads what the rule reads: its tokens as they are shown, and as they are printed. Reads all twice, and three more times where something
-/// is stored verbatim, where a list in `< >` has a lifetime after another member, or where an impl is printed with `< >`. On failure
-/// nothing is known of the cursor.
-pub fn recognized_and_printed(rule: Rule, input: &mut ParseBuffer<'_>) -> Parsed<ShownAndPrinted>
-    ensures reads { ShowsAndPrints IsSyntax (rule_of rule) input.old result input.new }
-    ensures kept { Kept input.old result input.new }
-    ensures moved { Takes (least (rule_of rule)) input.old result input.new }
-{
-    let mut ahead = input.fork();
-    let mut mistaken = false;
-    match both_by(rule, Notes::none(input.alloc()), &mut mistaken, &mut ahead) {
-        Ok(tokens) => {
-            input.advance_to(&ahead);
-            Ok(tokens)
-        }
-        Err(_) if mistaken => both_by(rule, noted(rule, input)?, &mut mistaken, input),
-        Err(refusal) => Err(refusal),
+    let mut out = Writer::showing(input.alloc());
+    write_rule(rule, &mut out, input)?;
+    match out.finish() {
+        Some(shown) => Ok(shown),
+        None => Err(input.refusal("unexpected token")),
     }
 }
 
-/// Reads what the rule reads: its tokens as they are printed. Writes them once. Reads all once, and three times where something is stored
-/// verbatim, where a list in `< >` has a lifetime after another member, or where an impl is printed with `< >`. On failure nothing is known
-/// of the cursor.
+/// Reads what the rule reads: its tokens as they are printed. Reads all once. On failure nothing is known of the cursor.
+#[tactic(auto, using(crate::proofs::Shown::printed, crate::proofs::Shown::not_read, crate::proofs::Shown::left_open, crate::proofs::Shown::kept, crate::proofs::Shown::moved))]
 pub fn printed_by(rule: Rule, input: &mut ParseBuffer<'_>) -> Parsed<TokenStream>
     ensures reads { Prints IsSyntax (rule_of rule) input.old result input.new }
     ensures kept { Kept input.old result input.new }
     ensures moved { Takes (least (rule_of rule)) input.old result input.new }
 {
-    let mut ahead = input.fork();
-    let mut mistaken = false;
-    match printed_with(rule, Notes::none(input.alloc()), &mut mistaken, &mut ahead) {
-        Ok(printed) => {
-            input.advance_to(&ahead);
-            Ok(printed)
-        }
-        Err(_) if mistaken => printed_with(rule, noted(rule, input)?, &mut mistaken, input),
-        Err(refusal) => Err(refusal),
+    let mut out = Writer::printing(input.alloc());
+    write_rule(rule, &mut out, input)?;
+    match out.finish() {
+        Some(printed) => Ok(printed),
+        None => Err(input.refusal("unexpected token")),
     }
+}
+
+/// Reads what the rule reads, once for its tokens as they are shown and once as they are printed. On failure nothing is known of the cursor.
+#[tactic(auto, using(crate::proofs::Shown::both))]
+pub fn recognized_and_printed(rule: Rule, input: &mut ParseBuffer<'_>) -> Parsed<ShownAndPrinted>
+    ensures reads { ShowsAndPrints IsSyntax (rule_of rule) input.old result input.new }
+    ensures kept { Kept input.old result input.new }
+    ensures moved { Takes (least (rule_of rule)) input.old result input.new }
+{
+    let shown = shown_by(rule, &mut input.fork())?;
+    let printed = printed_by(rule, input)?;
+    Ok(ShownAndPrinted { shown, printed })
 }

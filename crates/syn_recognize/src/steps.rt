@@ -18,7 +18,7 @@ ghost use Rattle.syn_recognize.specs.Written.{adds};
 ghost use Rattle.syn_parse.specs.Firsts.{Begins};
 ghost use Rattle.syn_recognize.specs.Ladder.{climb};
 ghost use Rattle.syn_recognize.specs.declared.step.Step.TheVariants.{Levels};
-ghost use Rattle.syn_recognize.specs.Steps.{Steps, Guessing, GoesOn, Leading, Runs, after};
+ghost use Rattle.syn_recognize.specs.Steps.{Steps, GoesOn, Leading, Runs, after};
 
 use crate::aside::{capture, forget, read_captured, read_hidden};
 use crate::braces::has_trailing_brace;
@@ -31,7 +31,7 @@ use crate::operands::{head_operand, opened, operand};
 use crate::planned::{choose_by_roots, read_plan, read_planned};
 use crate::refused::{left_over, told};
 use crate::rows::{
-    note, read_ordered, read_others, read_others_rest, read_row, read_row_rest, skip_late,
+    read_late_rest, read_ordered, read_others, read_others_rest, read_row, read_row_rest,
 };
 use crate::rules::{Part, Rule, form_of, form_of_part};
 use crate::step::Step;
@@ -50,8 +50,11 @@ use syn_tokens::token::{DelimiterKind, kind};
 
 static EMPTY: Form = Form::Empty;
 
+/// How many levels of forms are descended in one step; the deepest form that is read has far fewer.
+const MOST_LEVELS: u32 = 1 << 16;
+
 /// Does one step, and those after it up to the next token.
-#[tactic(auto, using(crate::proofs::Todo::guessing_leads))]
+#[tactic(auto, using(crate::proofs::Todo::steps_lead))]
 pub(crate) fn take<'a>(
     step: Step<'a>,
     steps: &mut Vec<Step<'a>>,
@@ -63,38 +66,20 @@ pub(crate) fn take<'a>(
     match step {
         Step::Form(form) => read_form(form, steps, out, input),
         Step::Levels(from, to) => read_levels(from, to, steps, out, input),
-        other => take_other(other, steps, out, input),
-    }
-}
-
-/// Does a step other than reading a form or levels.
-#[tactic(auto, using(crate::proofs::Todo::guessing))]
-fn take_other<'a>(
-    step: Step<'a>,
-    steps: &mut Vec<Step<'a>>,
-    out: &mut Writer,
-    input: &mut ParseBuffer<'a>,
-) -> Parsed<()>
-    ensures { Guessing IsSyntax steps.old.items (after step.entry (Reached out.old input.old)) result steps.new.items out.new input.new }
-{
-    match step {
-        Step::Form(_) => Err(Refusal::TooDeep(Span::call_site())),
-        Step::Levels(_, _) => Err(Refusal::TooDeep(Span::call_site())),
-        Step::Close(delimiter, closing, rest) => leave(delimiter, closing, &rest, out, input),
-        Step::Row(list, number) => read_row(list, number, steps, out, input),
-        Step::RowRest(list, number) => read_row_rest(list, number, steps, out, input),
-        Step::Others(list, late) => read_others(list, late, steps, out, input),
-        Step::OthersRest(list, late) => read_others_rest(list, late, steps, out, input),
-        Step::Note(before, begin, number) => note(before, &begin, number, out, input),
-        Step::Skip(list, before, late) => skip_late(list, before, late, steps, out, input),
+        Step::Close(closing, rest) => leave(closing, &rest, out, input),
+        Step::Row(list) => read_row(list, steps, out, input),
+        Step::RowRest(list) => read_row_rest(list, steps, out, input),
+        Step::Others(list, before) => read_others(list, before, steps, out, input),
+        Step::OthersRest(list, before) => read_others_rest(list, before, steps, out, input),
+        Step::LateRest(list, others) => read_late_rest(list, others, steps, out, input),
         Step::Forget(before) => forget(before, out, input),
         Step::Capture(before, begin) => capture(before, &begin, out, input),
         Step::ByBraces(one, other, begin) => {
             read_by_braces(one, other, &begin, steps, out, input)
         }
-        Step::Plan(plan, guess) => read_plan(plan, guess, steps, out, input),
-        Step::Rooted(one, other, guess, begin) => {
-            choose_by_roots(one, other, guess, &begin, steps, out, input)
+        Step::Plan(plan, draft) => read_plan(plan, draft, steps, out, input),
+        Step::Rooted(one, other, draft, begin) => {
+            choose_by_roots(one, other, draft, &begin, steps, out, input)
         }
     }
 }
@@ -128,15 +113,12 @@ fn read_level<'a>(
     requires { level < to }
     ensures { Leading IsSyntax steps.old.items (climb (to - level) level out.old input.old) result steps.new.items out.new input.new }
 {
-    let Some(form) = behind(level) else {
-        return Err(Refusal::TooDeep(Span::call_site()));
-    };
     steps.push(Step::Levels(level + 1, to))?;
-    read_form(form, steps, out, input)
+    read_form(behind(level), steps, out, input)
 }
 
 /// Reads a form after descending to the first part that reads something itself.
-#[tactic(auto, using(crate::proofs::Todo::goes_read, crate::proofs::Todo::guessing_leads))]
+#[tactic(auto, using(crate::proofs::Todo::goes_read, crate::proofs::Todo::steps_lead))]
 fn read_form<'a>(
     form: &'static Form,
     steps: &mut Vec<Step<'a>>,
@@ -146,14 +128,15 @@ fn read_form<'a>(
     ensures { Leading IsSyntax steps.old.items (copy_form (grammar_of form.now) out.old input.old) result steps.new.items out.new input.new }
 {
     let first = descend(form, steps, out, input)?;
-    match read_begun(first, steps, out, input) {
+    match read_leaf(first, steps, out, input) {
         Ok(()) => Ok(()),
         Err(refusal) => Err(told(refusal, first, input)),
     }
 }
 
-/// Descends to the first form that reads something itself, and defers what follows it. Refused only where memory is.
-#[tactic(auto, using(crate::proofs::Todo::goes_here))]
+/// Descends to the first form that reads something itself, and defers what follows it; after very many levels the form is deferred too.
+/// Refused only where memory is.
+#[tactic(auto, using(crate::proofs::Todo::goes_here, crate::proofs::Todo::goes_later))]
 fn descend<'a>(
     form: &'static Form,
     steps: &mut Vec<Step<'a>>,
@@ -164,7 +147,7 @@ fn descend<'a>(
 {
     let next = input.first();
     let mut form = form;
-    'down: for _level in 0..u64::MAX {
+    'down: for _level in 0..MOST_LEVELS {
         match below(form, next, steps, out, input)? {
             Some(first) => form = first,
             None => match resumed(form, next, steps, out, input)? {
@@ -173,7 +156,8 @@ fn descend<'a>(
             },
         }
     }
-    Err(Refusal::TooDeep(Span::call_site()))
+    steps.push(Step::Form(form))?;
+    Ok(&EMPTY)
 }
 
 /// After a form that reads nothing: the last deferred step, if it is a form.
@@ -236,11 +220,8 @@ fn next_level<'a>(
     if to <= level {
         return Ok(&EMPTY);
     }
-    let Some(form) = behind(level) else {
-        return Err(Refusal::TooDeep(Span::call_site()));
-    };
     steps.push(Step::Levels(level + 1, to))?;
-    Ok(form)
+    Ok(behind(level))
 }
 
 /// The form with which this composed form begins; defers the rest. None where the form is not composed. Refused only where memory is.
@@ -358,23 +339,7 @@ fn begin_other<'a>(
     }
 }
 
-/// Begins a plan, or reads another form that isn't composed.
-#[tactic(auto, using(crate::proofs::Todo::guessing))]
-fn read_begun<'a>(
-    form: &'static Form,
-    steps: &mut Vec<Step<'a>>,
-    out: &mut Writer,
-    input: &mut ParseBuffer<'a>,
-) -> Parsed<()>
-    ensures { Guessing IsSyntax steps.old.items (copy_form (grammar_of form.now) out.old input.old) result steps.new.items out.new input.new }
-{
-    match form {
-        Form::Planned(planned) => read_planned(*planned, steps, out, input),
-        _ => read_leaf(form, steps, out, input),
-    }
-}
-
-/// Reads a form that isn't composed and isn't read by a plan.
+/// Reads a form that isn't composed; a composed one is deferred.
 #[tactic(auto, unfolding(crate::specs::Copies::copy_form))]
 fn read_leaf<'a>(
     form: &'static Form,
@@ -403,15 +368,29 @@ fn read_leaf<'a>(
         Form::Hidden(look, form) => read_hidden(look, form, steps, out, input),
         Form::Captured(form) => read_captured(form, steps, out, input),
         Form::ByBraces(one, other) => read_value(one, other, steps, out, input),
-        Form::Planned(_) => Err(Refusal::TooDeep(Span::call_site())),
         Form::Supplied(nameless) => read_supplied(*nameless, steps, out, input),
-        Form::Then(_, _) => Err(Refusal::TooDeep(Span::call_site())),
-        Form::When(_, _, _) => Err(Refusal::TooDeep(Span::call_site())),
-        Form::Rule(_) => Err(Refusal::TooDeep(Span::call_site())),
-        Form::Part(_) => Err(Refusal::TooDeep(Span::call_site())),
-        Form::Shaped(_, _) => Err(Refusal::TooDeep(Span::call_site())),
-        Form::Only(_) => Err(Refusal::TooDeep(Span::call_site())),
+        Form::Planned(planned) => read_planned(*planned, steps, out, input),
+        Form::Then(_, _) => defer(form, steps, out, input),
+        Form::When(_, _, _) => defer(form, steps, out, input),
+        Form::Rule(_) => defer(form, steps, out, input),
+        Form::Part(_) => defer(form, steps, out, input),
+        Form::Shaped(_, _) => defer(form, steps, out, input),
+        Form::Only(_) => defer(form, steps, out, input),
     }
+}
+
+/// Reads a form in the next step.
+#[tactic(auto, using(crate::proofs::Todo::push))]
+fn defer<'a>(
+    form: &'static Form,
+    steps: &mut Vec<Step<'a>>,
+    _out: &Writer,
+    _input: &ParseBuffer<'a>,
+) -> Parsed<()>
+    ensures { Steps IsSyntax steps.old.items (copy_form (grammar_of form.now) _out.now _input.now) result steps.new.items _out.now _input.now }
+{
+    steps.push(Step::Form(form))?;
+    Ok(())
 }
 
 /// Reads and writes a mark; refuses with this fault if another token is next.
@@ -464,7 +443,7 @@ fn enter_by<'a, K: DelimiterKind>(
 {
     let (delimiters, content) = input.read_group::<K>()?;
     out.open(K::delimiter(), delimiters.opening)?;
-    steps.push(Step::Close(K::delimiter(), delimiters.closing, input.fork()))?;
+    steps.push(Step::Close(delimiters.closing, input.fork()))?;
     steps.push(Step::Form(form))?;
     input.advance_to(&content);
     Ok(())
@@ -473,7 +452,6 @@ fn enter_by<'a, K: DelimiterKind>(
 /// Ends a group, and continues after it.
 #[tactic(auto, using(syn_grammar::proofs::Looks::sees_ended))]
 fn leave<'a>(
-    delimiter: Delimiter,
     closing: Span,
     rest: &ParseBuffer<'a>,
     out: &mut Writer,
@@ -484,7 +462,7 @@ fn leave<'a>(
     if !input.is_empty() {
         return Err(left_over(input));
     }
-    out.close(delimiter, closing)?;
+    out.close(closing)?;
     input.advance_to(rest);
     Ok(())
 }
@@ -509,7 +487,7 @@ fn copy_group_by<K: DelimiterKind>(out: &mut Writer, input: &mut ParseBuffer<'_>
     let (delimiters, mut content) = input.read_group::<K>()?;
     out.open(K::delimiter(), delimiters.opening)?;
     append_all(&mut content, out)?;
-    out.close(K::delimiter(), delimiters.closing)?;
+    out.close(delimiters.closing)?;
     Ok(())
 }
 

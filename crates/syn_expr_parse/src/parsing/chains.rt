@@ -38,7 +38,7 @@ fn count_links(input: &ParseBuffer<'_>) -> Parsed<()>
     let levels = input.stack_left() / EXPRESSION;
     let mut outside: Vec<Level<'_>> = Vec::new(input.alloc());
     let mut here = Level::new(input.cursor());
-    'trees: for _tree in 0..u64::MAX {
+    'trees: loop {
         let Some((tree, rest)) = here.rest.split() else {
             let Some(around) = outside.pop() else {
                 return Ok(());
@@ -59,7 +59,6 @@ fn count_links(input: &ParseBuffer<'_>) -> Parsed<()>
             _ => {}
         }
     }
-    Err(Refusal::Memory(None))
 }
 
 /// Refuses a stream at this place in which more links than that are nested.

@@ -1,4 +1,9 @@
 //! The links that were counted in a group. What may be none counts too, so there are never more than were counted.
+ghost use Rattle.std.specs.Prelude.{◌≡◌, ◌<◌, IfSome};
+ghost use Rattle.syn_grammar.specs.Tokens.{end};
+ghost use Rattle.syn_grammar.specs.Take.{left};
+ghost use Rattle.syn_tokens.specs.Cursors.{before_next};
+
 use syn_tokens::delimiter::Delimiter;
 use syn_tokens::ident::ident_ref::IdentRef;
 use syn_tokens::punct::{Punct, Spacing};
@@ -53,7 +58,9 @@ impl<'a> Level<'a> {
     }
 
     /// A group that wasn't looked at.
-    fn behind(delimiter: Delimiter, opening: Span, rest: Cursor<'a>) -> Level<'a> {
+    fn behind(delimiter: Delimiter, opening: Span, rest: Cursor<'a>) -> Level<'a>
+        ensures { result.rest ≡ rest }
+    {
         Level {
             rest,
             opening,
@@ -74,7 +81,10 @@ impl<'a> Level<'a> {
     }
 
     /// Looks at the next tree. The level of its content, where it is a group whose links count.
-    pub(super) fn see(&mut self, tree: TokenTreeRef<'a>) -> Option<Level<'a>> {
+    pub(super) fn see(&mut self, tree: TokenTreeRef<'a>) -> Option<Level<'a>>
+        ensures rest { self.new.rest ≡ self.old.rest }
+        ensures inside { IfSome result (λ inner. left inner.rest < left (before_next tree end)) }
+    {
         match tree {
             TokenTreeRef::Ident(ident) => self.see_ident(&ident),
             TokenTreeRef::Literal(_) => self.before = Before::Operand,
@@ -85,7 +95,9 @@ impl<'a> Level<'a> {
     }
 
     /// Continues after a group.
-    pub(super) fn close(&mut self, inner: &Level<'_>) {
+    pub(super) fn close(&mut self, inner: &Level<'_>)
+        ensures { self.new.rest ≡ self.old.rest }
+    {
         let most = inner.ended.max(inner.unended());
         if inner.delimiter == Delimiter::None {
             self.links = self.links.saturating_add(most);
@@ -95,7 +107,9 @@ impl<'a> Level<'a> {
     }
 
     /// Ends an element or a statement.
-    fn end(&mut self) {
+    fn end(&mut self)
+        ensures { self.new.rest ≡ self.old.rest }
+    {
         self.ended = self.ended.max(self.unended());
         self.links = 0;
         self.inside = 0;
@@ -104,12 +118,16 @@ impl<'a> Level<'a> {
         self.closure = false;
     }
 
-    fn link(&mut self) {
+    fn link(&mut self)
+        ensures { self.new.rest ≡ self.old.rest }
+    {
         self.links = self.links.saturating_add(1);
     }
 
     /// After braces only `as` and `else` continue.
-    fn see_ident(&mut self, ident: &IdentRef<'_>) {
+    fn see_ident(&mut self, ident: &IdentRef<'_>)
+        ensures { self.new.rest ≡ self.old.rest }
+    {
         let text = ident.text();
         match self.before {
             Before::Braces if text != "as" && text != "else" => self.end(),
@@ -128,7 +146,9 @@ impl<'a> Level<'a> {
         };
     }
 
-    fn see_punct(&mut self, punct: Punct) {
+    fn see_punct(&mut self, punct: Punct)
+        ensures { self.new.rest ≡ self.old.rest }
+    {
         let character = punct.character();
         let first = match self.before {
             Before::Mark(first, true) => first,
@@ -145,7 +165,9 @@ impl<'a> Level<'a> {
     }
 
     /// Counts a character of a mark, after another of it.
-    fn count_mark(&mut self, first: char, character: char) {
+    fn count_mark(&mut self, first: char, character: char)
+        ensures { self.new.rest ≡ self.old.rest }
+    {
         match (first, character) {
             (_, ';') => self.end(),
             (_, ',') if self.angles == 0 && !self.closure => self.end(),
@@ -170,7 +192,9 @@ impl<'a> Level<'a> {
 
     /// Opens generic arguments, unless it is known that this is an operator: an operand has ended, and no type or `::` is before it;
     /// or it is the second character of such an operator.
-    fn open_angle(&mut self, first: char) {
+    fn open_angle(&mut self, first: char)
+        ensures { self.new.rest ≡ self.old.rest }
+    {
         let is_operator = first == '<' || self.has_operand();
         if self.in_type || self.angles > 0 || !is_operator {
             self.angles = self.angles.saturating_add(1);
@@ -178,7 +202,9 @@ impl<'a> Level<'a> {
     }
 
     /// Counts an operator, unless it is known that no operand is before it.
-    fn count_operator(&mut self) {
+    fn count_operator(&mut self)
+        ensures { self.new.rest ≡ self.old.rest }
+    {
         match self.before {
             Before::Start => {}
             Before::Mark(mark, _) if mark != '>' => {}
@@ -192,7 +218,10 @@ impl<'a> Level<'a> {
     }
 
     /// Parentheses and brackets after what may be an operand continue it; those of a method were counted with its `.`.
-    fn see_group(&mut self, group: GroupRef<'a>) -> Option<Level<'a>> {
+    fn see_group(&mut self, group: GroupRef<'a>) -> Option<Level<'a>>
+        ensures rest { self.new.rest ≡ self.old.rest }
+        ensures inside { IfSome result (λ inner. inner.rest ≡ group.content) }
+    {
         let before = self.before;
         self.before = match (before, group.delimiter) {
             (_, Delimiter::Brace) => Before::Braces,
