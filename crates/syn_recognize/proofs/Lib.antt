@@ -5,14 +5,14 @@ pub mod Shapes
 pub mod Ways
 pub mod Writes
 pub mod Copied
-pub mod Exact
 pub mod Ordered
 pub mod Lists
 pub mod Solid
 pub mod FadingParts
 pub mod WrittenAside
+pub mod GuessedCourses
 pub mod CourseProofs
-pub mod Guessed
+pub mod Drafts
 pub mod RootMarks
 pub mod ImplGenerics
 pub mod ImplCourses

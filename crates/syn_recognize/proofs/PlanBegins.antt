@@ -20,9 +20,10 @@ use Rattle.syn_grammar.proofs.SmallPlans.{derive_input_plan_is}
 use Rattle.syn_grammar.proofs.AlonePlans.{use_alone_is, type_alone_is, impl_alone_is}
 use Rattle.syn_recognize.specs.Forms.{grammar_of}
 use Rattle.syn_recognize.specs.Written.{Written, adds}
-use Rattle.syn_recognize.specs.Copies.{Copy, Reached, Refused, Stuck, Leads, copied, next, copy_form, capturing}
+use Rattle.syn_recognize.specs.Copies.{Copy, Reached, Refused, Stuck, copied, next, copy_form, capturing}
+use Rattle.syn_recognize.proofs.GuessedCourses.{Fair, Leads, behind_form, copy_course, copy_kept, copy_way}
 use Rattle.syn_recognize.specs.Course.{Course}
-use Rattle.syn_recognize.specs.Courses.{Fair, behind_form, copy_kept, copy_course, copy_way, copy_guess, course_of}
+use Rattle.syn_recognize.specs.Courses.{course_of}
 use Rattle.syn_recognize.specs.Stages.{planned_course, planned_form}
 use Rattle.syn_recognize.specs.Steps.{todo, after}
 use Rattle.syn_recognize.specs.declared.guess.Guess.{Guess}
@@ -80,28 +81,3 @@ planned_kept Planned-m.TypeItemRest w v ts = by_plan_kept rules.type_item_rest r
 planned_kept Planned-m.ImplDefinitionRest w v ts = by_plan_kept rules.impl_definition_rest rules.kept_item (planned_course Planned-m.ImplDefinitionRest) impl_alone impl_alone_is impl_definition_rest_goes w v ts
 planned_kept Planned-m.Statement w v ts = subst (Leads (copy_form (table rules.statement) w ts)) (sym (nothing_behind (next (copy_kept (planned_course Planned-m.Statement) v ts) (capturing w ts)))) (statement_kept w ts v)
 planned_kept Planned-m.Statements w v ts = statements_kept w ts v
-
--- STEPS
-
-pub begins : (old new : List Step) (p : _) (k : Planned) (g : Guess) (w : Written) (ts : Stream) → new ≡ old ++ Step-m.Plan p g ∷ [] → course_of p.now ≡ planned_course k → g.kept ≡ false → Fair w.printing g.leads →
-    Leads (todo old (copy_form (planned_form k) w ts)) (todo new (Reached w ts))
-begins old new p k g w ts e c f fair =
-    subst (λ l. Leads (todo old (copy_form (planned_form k) w ts)) (todo l (Reached w ts))) (sym e)
-    (subst (Leads (todo old (copy_form (planned_form k) w ts))) (sym (push old (Step-m.Plan p g) (Reached w ts)))
-    (leads_todo old (copy_form (planned_form k) w ts) (copy_guess g (course_of p.now) w ts)
-    (subst (λ d. Leads (copy_form (planned_form k) w ts) (copy_guess g d w ts)) (sym c)
-    (subst (λ b. Leads (copy_form (planned_form k) w ts) (copy_way b (planned_course k) g.leads w ts)) (sym f) (planned_written k w ts g.leads fair)))))
-
-pub begins_aside : (old new : List Step) (f b i p : _) (k : Planned) (g : Guess) (w v : Written) (ts : Stream) → new ≡ ((old ++ Step-m.Form f ∷ []) ++ Step-m.Capture b i ∷ []) ++ Step-m.Plan p g ∷ [] →
-    grammar_of f.now ≡ behind_form k → b.value ≡ w → i ≡ ts → course_of p.now ≡ planned_course k → g.kept ≡ true → Leads (todo old (copy_form (planned_form k) w ts)) (todo new (Reached v ts))
-begins_aside old new f b i p k g w v ts e q r s c h =
-    subst (λ l. Leads (todo old (copy_form (planned_form k) w ts)) (todo l (Reached v ts))) (sym e)
-    (subst (Leads (todo old (copy_form (planned_form k) w ts)))
-    (sym (push ((old ++ Step-m.Form f ∷ []) ++ Step-m.Capture b i ∷ []) (Step-m.Plan p g) (Reached v ts) ∙ push (old ++ Step-m.Form f ∷ []) (Step-m.Capture b i) (copy_guess g (course_of p.now) v ts)
-    ∙ push old (Step-m.Form f) (next (copy_guess g (course_of p.now) v ts) (capturing b.value i))))
-    (leads_todo old (copy_form (planned_form k) w ts) (next (next (copy_guess g (course_of p.now) v ts) (capturing b.value i)) (copy_form (grammar_of f.now)))
-    (subst (λ d. Leads (copy_form (planned_form k) w ts) (next (next (copy_guess g d v ts) (capturing b.value i)) (copy_form (grammar_of f.now)))) (sym c)
-    (subst (λ a. Leads (copy_form (planned_form k) w ts) (next (next (copy_way a (planned_course k) g.leads v ts) (capturing b.value i)) (copy_form (grammar_of f.now)))) (sym h)
-    (subst (λ u. Leads (copy_form (planned_form k) w ts) (next (next (copy_kept (planned_course k) v ts) (capturing u i)) (copy_form (grammar_of f.now)))) (sym r)
-    (subst (λ z. Leads (copy_form (planned_form k) w ts) (next (next (copy_kept (planned_course k) v ts) (capturing w z)) (copy_form (grammar_of f.now)))) (sym s)
-    (subst (λ x. Leads (copy_form (planned_form k) w ts) (next (next (copy_kept (planned_course k) v ts) (capturing w ts)) (copy_form x))) (sym q) (planned_kept k w v ts))))))))

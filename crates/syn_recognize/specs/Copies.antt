@@ -13,10 +13,11 @@ use Rattle.syn_recognize.specs.Ordered.{member}
 use Rattle.syn_recognize.specs.declared.list.List as list
 use Rattle.syn_recognize.specs.Trailing.{ends_by}
 
--- the output and the tokens left; or nothing is read
+-- the output and the tokens left; or nothing is read. Stuck is for proofs alone: there a guess was wrong, and nothing is known
 pub data Copy : Type 0 where
   Reached : Written → Stream → Copy
   Refused : Copy
+  Stuck : Copy
 
 -- the result of a parse, with its tree after what was written
 abbrev pub copied : Written → Out → Copy
@@ -40,6 +41,7 @@ least k = least_of (start_of k).nullable
 abbrev pub next : Copy → (Written → Stream → Copy) → Copy
 next (Reached w ts) q = q w ts
 next Refused q = Refused
+next Stuck q = Stuck
 
 -- the end of a group, and what follows it
 abbrev pub closing : Span → Stream → Written → Stream → Copy

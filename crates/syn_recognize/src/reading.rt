@@ -85,7 +85,7 @@ fn shown_by(rule: Rule, input: &mut ParseBuffer<'_>) -> Parsed<TokenStream>
 }
 
 /// Reads what the rule reads: its tokens as they are printed. Reads all once. On failure nothing is known of the cursor.
-#[tactic(auto, using(crate::proofs::Shown::printed, crate::proofs::Shown::not_read, crate::proofs::Shown::left_open, crate::proofs::Shown::kept, crate::proofs::Shown::moved))]
+#[tactic(auto, using(crate::proofs::Shown::shown, crate::proofs::Shown::not_read, crate::proofs::Shown::left_open, crate::proofs::Shown::kept, crate::proofs::Shown::moved))]
 pub fn printed_by(rule: Rule, input: &mut ParseBuffer<'_>) -> Parsed<TokenStream>
     ensures reads { Prints IsSyntax (rule_of rule) input.old result input.new }
     ensures kept { Kept input.old result input.new }
