@@ -5,6 +5,7 @@ pub mod Shapes
 pub mod Ways
 pub mod Writes
 pub mod Copied
+pub mod Exact
 pub mod Ordered
 pub mod Lists
 pub mod Solid

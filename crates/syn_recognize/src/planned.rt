@@ -36,7 +36,6 @@ static SELF_TYPE: Form = Form::Rule(Rule::FOR_SELF_TYPE);
 static TREES_IN_BRACES: Form = Form::Inside(Delimiter::Brace, &Form::Rule(Rule::ROOTED_TREES));
 
 /// Begins a plan. Its tokens are written aside, unless they are dropped.
-#[tactic(auto, using(crate::proofs::PlanBegins::begins, crate::proofs::PlanBegins::begins_dropped))]
 pub(crate) fn read_planned<'a>(
     planned: Planned,
     steps: &mut Vec<Step<'a>>,
@@ -174,7 +173,7 @@ pub(crate) fn choose_by_roots<'a>(
 }
 
 /// Continues with this plan, and then reads this form.
-#[tactic(auto, using(crate::proofs::Todo::push))]
+#[tactic(auto, using(crate::proofs::Todo::push, crate::proofs::Drafts::followed_is))]
 fn follow<'a>(
     plan: &'static Plan,
     form: &'static Form,
@@ -191,7 +190,7 @@ fn follow<'a>(
 }
 
 /// It is of a kind: what was written aside is appended to the output before it, and the rest is read.
-#[tactic(auto, using(crate::proofs::Todo::push, crate::proofs::Drafts::rest_is))]
+#[tactic(auto, using(crate::proofs::Todo::push, crate::proofs::Drafts::rest_dropped, crate::proofs::Drafts::rest_aside, crate::proofs::Drafts::rest_headed))]
 fn read_rest<'a>(
     form: &'static Form,
     draft: Draft<'a>,
@@ -213,7 +212,7 @@ fn read_rest<'a>(
 }
 
 /// The tokens are stored verbatim: what was written aside is dropped, the rest is read, and all of the plan's tokens are copied.
-#[tactic(auto, using(crate::proofs::Todo::push, crate::proofs::Drafts::kept_is))]
+#[tactic(auto, using(crate::proofs::Todo::push, crate::proofs::Drafts::kept_dropped, crate::proofs::Drafts::kept_aside))]
 fn read_kept<'a>(
     form: &'static Form,
     draft: Draft<'a>,
@@ -269,7 +268,7 @@ fn show_lists<'a>(
 }
 
 /// The same, where they are printed. Without parameters, what follows is written aside once more.
-#[tactic(auto, using(crate::proofs::Todo::push, crate::proofs::ImplGenerics::none_absent, crate::proofs::ImplGenerics::none_bare, crate::proofs::ImplGenerics::some_kept))]
+#[tactic(auto, using(crate::proofs::Todo::push))]
 fn print_lists<'a>(
     plan: &'static Plan,
     draft: Draft<'a>,
