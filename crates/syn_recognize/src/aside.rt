@@ -4,7 +4,7 @@ ghost use Rattle.syn_grammar.specs.Grammar.{vanishing, captured};
 ghost use Rattle.syn_parse.specs.Refusals.{IsSyntax};
 ghost use Rattle.syn_recognize.specs.Forms.{grammar_of};
 ghost use Rattle.syn_recognize.specs.Names.{look_of};
-ghost use Rattle.syn_recognize.specs.Copies.{copy_form, forgetting, capturing};
+ghost use Rattle.syn_recognize.specs.Copies.{copy_form, forgetting, capturing, joining};
 ghost use Rattle.syn_recognize.specs.Steps.{Steps, Runs};
 
 use crate::form::Form;
@@ -77,4 +77,18 @@ pub(crate) fn capture<'a>(
         Ok(tokens) => Ok(out.append(&tokens)?),
         Err(error) => Err(Refusal::Memory(error.into_alloc_error())),
     }
+}
+
+/// Restores the output that was set aside, and appends what was written aside. Refused where memory is, or where a group of it is still open:
+/// then nothing is read.
+pub(crate) fn join(mut before: Box<Writer>, out: &mut Writer, input: &ParseBuffer<'_>) -> Parsed<()>
+    ensures { Runs IsSyntax (joining before.value out.old input.now) result out.new input.now }
+{
+    out.exchange(&mut before);
+    let aside = Box::into_inner(before);
+    let Some(tokens) = aside.finish() else {
+        return Err(input.refusal("unexpected token"));
+    };
+    out.append(&tokens)?;
+    Ok(())
 }

@@ -13,6 +13,7 @@ ghost use Rattle.syn_recognize.specs.Names.{look_of};
 ghost use Rattle.syn_recognize.specs.Course.{reads, turns, rooted, followed, rest, kept, lists, led, self_type};
 ghost use Rattle.syn_recognize.specs.Steps.{Steps};
 
+use crate::aside::join;
 use crate::draft::{Begun, Draft};
 use crate::form::Form;
 use crate::item_looks::at_generics;
@@ -203,9 +204,9 @@ fn read_rest<'a>(
     let Draft { begun, head } = draft;
     if let Some(Begun { before, .. }) = begun {
         if let Some(head) = head {
-            out.join(head, input)?;
+            join(head, out, input)?;
         }
-        out.join(before, input)?;
+        join(before, out, input)?;
     }
     steps.push(Step::Form(form))?;
     Ok(())
@@ -345,7 +346,7 @@ fn decided<'a>(
     }
     head.write(&Lt::new([Span::call_site()]))?;
     head.write(&Gt::new([Span::call_site()]))?;
-    out.join(head, input)?;
+    join(head, out, input)?;
     Ok(Draft { begun, head: None })
 }
 

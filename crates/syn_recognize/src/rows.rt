@@ -9,6 +9,7 @@ ghost use Rattle.syn_recognize.specs.Ordered.{first_form, other_form, Tells};
 ghost use Rattle.syn_recognize.specs.Copies.{next, copy_form, copy_row, after_member, copy_others, after_other, after_late};
 ghost use Rattle.syn_recognize.specs.Steps.{Steps};
 
+use crate::aside::join;
 use crate::form::Form;
 use crate::left_out::Place;
 use crate::list::{List, at_first, first_of, other_of};
@@ -126,7 +127,7 @@ pub(crate) fn read_others<'a>(
     ensures { Steps IsSyntax steps.old.items (copy_others list before.value out.old input.now) result steps.new.items out.new input.now }
 {
     if input.peek::<Gt>() {
-        return out.join(before, input);
+        return join(before, out, input);
     }
     if at_first(list, input) {
         return read_late(list, before, steps, out, input);
@@ -181,7 +182,7 @@ pub(crate) fn read_late_rest<'a>(
     if !input.peek::<Comma>() {
         out.write(&Comma::new([Span::call_site()]))?;
         out.exchange(&mut others);
-        return out.join(others, input);
+        return join(others, out, input);
     }
     copy_mark(Mark::Comma, out, input)?;
     out.exchange(&mut others);
@@ -201,7 +202,7 @@ pub(crate) fn read_others_rest<'a>(
     ensures { Steps IsSyntax steps.old.items (after_other list before.value out.old input.old) result steps.new.items out.new input.new }
 {
     if !input.peek::<Comma>() {
-        return out.join(before, input);
+        return join(before, out, input);
     }
     copy_mark(Mark::Comma, out, input)?;
     steps.push(Step::Others(list, before))?;

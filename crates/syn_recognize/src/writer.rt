@@ -8,15 +8,12 @@ ghost use Rattle.syn_tokens.specs.Delimiters.{delimiter_of};
 ghost use Rattle.syn_recognize.specs.PrintedRows.{way};
 ghost use Rattle.syn_recognize.specs.Trailing.{IsLeaf};
 ghost use Rattle.syn_recognize.specs.Written.{adds, enters, leaves, blank, unwritten, closed, drops, stream_of};
-ghost use Rattle.syn_recognize.specs.Copies.{joining};
-ghost use Rattle.syn_recognize.specs.Steps.{Runs};
 ghost use Rattle.syn_grammar.specs.Promises.{OrMemory};
-ghost use Rattle.syn_parse.specs.Refusals.{IsSyntax, NotMemory};
+ghost use Rattle.syn_parse.specs.Refusals.{NotMemory};
 
 use std::alloc::{AllocError, Global};
 use std::marker::Model;
 use std::mem;
-use syn_parse::buffer::ParseBuffer;
 use syn_parse::read::refusal::Parsed;
 use syn_tokens::delimiter::Delimiter;
 use syn_tokens::print::Print;
@@ -212,20 +209,7 @@ impl Writer {
         ensures here { self.new ≡ other.old.value }
         ensures there { other.new.value ≡ self.old }
     {
-        mem::swap(self, other);
-    }
-
-    /// Restores the output that was set aside, and appends what was written aside. Refused where memory is, or where a group of it is
-    /// still open: then nothing is read.
-    pub(crate) fn join(&mut self, before: Box<Writer>, input: &ParseBuffer<'_>) -> Parsed<()>
-        ensures { Runs IsSyntax (joining before.value self.old input.now) result self.new input.now }
-    {
-        let aside = mem::replace(self, Box::into_inner(before));
-        let Some(tokens) = aside.finish() else {
-            return Err(input.refusal("unexpected token"));
-        };
-        self.append(&tokens)?;
-        Ok(())
+        mem::swap(self, &mut **other);
     }
 
     /// The tokens written; none where a group is still open.
