@@ -18,22 +18,15 @@ use Rattle.syn_grammar.proofs.MemberPlans.{trait_item_plan_is, impl_item_plan_is
 use Rattle.syn_grammar.proofs.StatementPlans.{crate_macro_plan_is}
 use Rattle.syn_grammar.proofs.SmallPlans.{derive_input_plan_is}
 use Rattle.syn_grammar.proofs.AlonePlans.{use_alone_is, type_alone_is, impl_alone_is}
-use Rattle.syn_recognize.specs.Forms.{grammar_of}
 use Rattle.syn_recognize.specs.Written.{Written, adds}
 use Rattle.syn_recognize.specs.Copies.{Copy, Reached, Refused, Stuck, copied, next, copy_form, capturing}
 use Rattle.syn_recognize.proofs.GuessedCourses.{Fair, Leads, behind_form, copy_course, copy_kept, copy_way}
 use Rattle.syn_recognize.specs.Course.{Course}
-use Rattle.syn_recognize.specs.Courses.{course_of}
 use Rattle.syn_recognize.specs.Stages.{planned_course, planned_form}
-use Rattle.syn_recognize.specs.Steps.{todo, after}
-use Rattle.syn_recognize.specs.declared.guess.Guess.{Guess}
 use Rattle.syn_recognize.specs.declared.plan.Planned.{Planned}
 use Rattle.syn_recognize.specs.declared.plan.Planned.TheVariants as Planned-m
-use Rattle.syn_recognize.specs.declared.step.Step.{Step}
-use Rattle.syn_recognize.specs.declared.step.Step.TheVariants as Step-m
 use Rattle.syn_recognize.proofs.Writes.{adds_none}
 use Rattle.syn_recognize.proofs.Copied.{empty_is}
-use Rattle.syn_recognize.proofs.Todo.{push, leads_todo}
 use Rattle.syn_recognize.proofs.CourseProofs.{Goes, goes_written, goes_kept}
 use Rattle.syn_recognize.proofs.PlannedCourses.{item_goes, trait_item_goes, impl_item_goes, foreign_item_goes, derive_input_goes, crate_macro_goes, use_item_rest_goes, type_item_rest_goes, impl_definition_rest_goes}
 use Rattle.syn_recognize.proofs.StatementCourses.{table_is, statement_written, statement_kept, statements_written, statements_kept}
