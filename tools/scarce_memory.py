@@ -36,7 +36,7 @@ PROGRAMS = {
 }
 TEST = re.compile(r"test (\S+) \.\.\. (ok|FAILED)$")
 # how a test ends that hands on an error of memory, or expects an answer and has one: an `Error` without faults, or std's own
-WANT_OF_MEMORY = re.compile(r"([Ee]rror|an answer): (Error \{.*count: 0, too_deep: None \}|.*AllocError.*|AllocFailed .*|.*OutOfMemory.*)$")
+WANT_OF_MEMORY = re.compile(r"([Ee]rror|an answer): (Error \{.*refused: Some\(Memory\(.*\)\) \}|.*AllocError.*|AllocFailed .*|.*OutOfMemory.*)$")
 
 
 def run(crate, number):

@@ -125,10 +125,9 @@ fn fields_within<N: Nested>(
     requires { MayBelow N.may nested.now input.old }
     ensures { Parses IsSyntax itself rules.fields_named input.old result input.new }
 {
-    let outside = input.stack_left();
-    input.set_stack_left(kib);
-    let answer = braced_fields(nested, input);
-    input.set_stack_left(outside);
+    let mut inside = input.with_stack_left(kib);
+    let answer = braced_fields(nested, &mut inside);
+    input.advance_to(&inside);
     answer
 }
 

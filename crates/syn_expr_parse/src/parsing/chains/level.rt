@@ -43,12 +43,17 @@ pub(super) struct Level<'a> {
     inside: u32,
     /// How many are nested at most in what has ended.
     ended: u32,
-    /// Whether a type may have begun, where `<` opens its arguments without `::`.
+    /// Whether the type of a cast, or a return type, may have begun, where `<` opens arguments without `::`.
     in_type: bool,
     /// How many `<` may be open.
     angles: u32,
     /// Whether a closure may have begun, whose parameters have commas.
     closure: bool,
+}
+
+/// Whether this keyword is an operand, or the first word of a path.
+fn is_operand_word(text: &str) -> bool {
+    matches!(text, "self" | "Self" | "super" | "crate" | "true" | "false")
 }
 
 impl<'a> Level<'a> {
@@ -124,7 +129,7 @@ impl<'a> Level<'a> {
         self.links = self.links.saturating_add(1);
     }
 
-    /// After braces only `as` and `else` continue.
+    /// A cast begins a type. After braces only `as` and `else` continue an expression.
     fn see_ident(&mut self, ident: &IdentRef<'_>)
         ensures { self.new.rest ≡ self.old.rest }
     {
@@ -141,6 +146,7 @@ impl<'a> Level<'a> {
             Before::Mark('.', _) => Before::Member,
             Before::Mark('\'', _) => Before::Word,
             _ if text == "as" || text == "mut" || text == "const" => Before::Start,
+            _ if is_operand_word(text) => Before::Operand,
             _ if ident.is_keyword() => Before::Word,
             _ => Before::Name,
         };
@@ -154,9 +160,12 @@ impl<'a> Level<'a> {
             Before::Mark(first, true) => first,
             _ => ' ',
         };
+        let was_open = self.angles > 0;
         self.count_mark(first, character);
         self.before = match (self.before, character) {
             (_, '?') => Before::Operand,
+            // the end of generic arguments; `->` ends none
+            (_, '>') if first != '-' && was_open && self.angles == 0 => Before::Operand,
             (Before::Name, '!') => Before::Bang,
             // a third one is no character of `<<`
             (Before::Mark('<', true), '<') => Before::Mark('<', false),
@@ -171,44 +180,49 @@ impl<'a> Level<'a> {
         match (first, character) {
             (_, ';') => self.end(),
             (_, ',') if self.angles == 0 && !self.closure => self.end(),
-            (_, ':') | ('-', '>') => self.in_type = true,
+            ('-', '>') => self.in_type = true,
             ('|', '|') => {}
             (_, '<') => {
                 self.open_angle(first);
-                self.count_operator();
+                self.count_operator(character);
             }
             (_, '>') => {
                 self.angles = self.angles.saturating_sub(1);
-                self.count_operator();
+                self.count_operator(character);
             }
             (_, '|') => {
                 self.closure = self.closure || !self.has_operand();
-                self.count_operator();
+                self.count_operator(character);
             }
-            (_, '+' | '-' | '*' | '/' | '%' | '^' | '&' | '.' | '?') => self.count_operator(),
+            (_, '+' | '-' | '*' | '/' | '%' | '^' | '&' | '.' | '?') => self.count_operator(character),
             _ => {}
         }
     }
 
-    /// Opens generic arguments, unless it is known that this is an operator: an operand has ended, and no type or `::` is before it;
-    /// or it is the second character of such an operator.
+    /// Opens generic arguments, unless it is known that this is an operator: an operand has ended, and it is not the name of a type
+    /// or before `::`; or it is the second character of such an operator.
     fn open_angle(&mut self, first: char)
         ensures { self.new.rest ≡ self.old.rest }
     {
         let is_operator = first == '<' || self.has_operand();
-        if self.in_type || self.angles > 0 || !is_operator {
+        let is_type = self.in_type && !matches!(self.before, Before::Operand);
+        if is_type || self.angles > 0 || !is_operator {
             self.angles = self.angles.saturating_add(1);
         }
     }
 
-    /// Counts an operator, unless it is known that no operand is before it.
-    fn count_operator(&mut self)
+    /// Counts an operator, unless it is known that no operand is before it. Outside of generic arguments it ends a type, unless it
+    /// is `<` or `>`.
+    fn count_operator(&mut self, character: char)
         ensures { self.new.rest ≡ self.old.rest }
     {
         match self.before {
             Before::Start => {}
             Before::Mark(mark, _) if mark != '>' => {}
-            _ => self.link(),
+            _ => {
+                self.link();
+                self.in_type = self.in_type && (self.angles > 0 || matches!(character, '<' | '>'));
+            }
         }
     }
 
@@ -217,12 +231,14 @@ impl<'a> Level<'a> {
         matches!(self.before, Before::Name | Before::Member | Before::Operand)
     }
 
-    /// Parentheses and brackets after what may be an operand continue it; those of a method were counted with its `.`.
+    /// Parentheses and brackets after what may be an operand continue it; those of a method were counted with its `.`. A group that
+    /// is not in generic arguments ends a type, unless `->` follows.
     fn see_group(&mut self, group: GroupRef<'a>) -> Option<Level<'a>>
         ensures rest { self.new.rest ≡ self.old.rest }
         ensures inside { IfSome result (λ inner. inner.rest ≡ group.content) }
     {
         let before = self.before;
+        self.in_type = self.in_type && self.angles > 0;
         self.before = match (before, group.delimiter) {
             (_, Delimiter::Brace) => Before::Braces,
             (Before::Mark('#' | '!', _), Delimiter::Bracket) => Before::Word,
