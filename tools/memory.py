@@ -2,10 +2,10 @@
 """Refuses each request for memory of each call, one after another, and fails where a call then answers something else than that.
 
     tools/memory.py [--strict] [--told] [--bin PROGRAM]     the library's calls, on the inputs of tools/memory_inputs.txt
-    tools/memory.py program [--strict] [--told]             the program's runs, on a few of them
+    tools/memory.py program [--strict] [--told]             the program's runs, on those of them that are of its kinds
 
 The program `memory_sweep` makes the calls (its src/main.rt tells which, and what is wrong). It is asked about each input, and about a
-file that is made of them; the last line says what was counted. A call may ask again for what it was refused, and then answers
+file and a block that are made of them; the last line says what was counted. A call may ask again for what it was refused, and then answers
 the right thing; such runs are counted as `again`, and are wrong with --strict. With --told each call that does so is printed.
 
 `program` runs `syn_canon`. Each run that is refused a request has to end with status 3, to write nothing, and to say that memory is
@@ -24,8 +24,10 @@ import sys
 import tempfile
 from collections import Counter
 from dataclasses import dataclass
+from itertools import islice
 from pathlib import Path
 
+import kinds
 import try_tests
 
 TOP = Path(__file__).resolve().parent.parent
@@ -40,13 +42,14 @@ FOUND = re.compile(r"(wrong|again) (\d+) (.*)")
 COUNT = re.compile(r"(\d+) ([a-z]+)")
 COUNTED = ("calls", "runs", "memory", "again", "wrong")
 
-# The program's words, and what stands on its standard input; no run makes more requests than that.
+# The program's words, and what is on its standard input; the inputs of its kinds are printed besides.
 RUNS = [
     ("print item", "#[a] pub struct S<T, 'a>(pub(in b) &'a [T; 1 + 2]);"),
     ("check stmts", "let a = b(c); d::<E>().f?"),
     ("list", "struct A; use b::c; impl D for E { fn f() {} }"),
 ]
-MOST = 80
+# A run makes at most so many requests, and one more for each character of the text.
+MOST = 60
 REFUSED = (3, "", "out of memory\n")
 # How a trial tells of the end of a case, behind what the program said.
 CASE = re.compile(r"(?m)^case=\d+ run=ended status=(\d+) .*\n")
@@ -79,24 +82,37 @@ def inputs_of(text):
 
 
 def of_each_form(inputs):
-    """The shortest of these inputs of each variant, and each of those that are kept as their tokens, which differ by their forms. What
-    stands in a group without delimiters is left out."""
+    """Each of these inputs that is a type, a pattern, an expression or verbatim, since each has a form of its own; of the others the shortest
+    of each variant. What is in a group without delimiters is left out."""
     shortest = {}
     for it in sorted(inputs, key=lambda it: len(it.text)):
         if not it.is_in_group:
-            shortest.setdefault((it.type, it.text if it.variant == "Verbatim" else it.variant), it)
+            has_own_form = it.variant == "Verbatim" or it.type in ("Type", "Pat", "Expr")
+            shortest.setdefault((it.type, it.text if has_own_form else it.variant), it)
     return list(shortest.values())
 
 
-def whole_file(inputs):
-    """A file with an item and a member of each form, and in it a type, a pattern, an expression and a statement of each."""
+def texts_of(inputs):
+    """The texts of each type."""
     texts = {}
     for it in of_each_form(inputs):
         texts.setdefault(it.type, []).append(it.text)
+    return texts
+
+
+def whole_block(inputs):
+    """A block with a statement of each form, and in statements of their own each type, pattern and expression."""
+    texts = texts_of(inputs)
+    parts = ["{", *texts["Stmt"], *(f"let _: {text} = a;" for text in texts["Type"]), *(f"let {text} = a;" for text in texts["Pat"])]
+    return Input("Block", "", " ".join([*parts, *(f"let _ = {text};" for text in texts["Expr"]), "}"]))
+
+
+def whole_file(inputs):
+    """A file with an item and a member of each form, each type as that of a field, and that block as the body of a function."""
+    texts = texts_of(inputs)
     parts = ["#![a]", *texts["Item"], "trait Members {", *texts["TraitItem"], "}", "impl Members {", *texts["ImplItem"], "}"]
     parts += ['extern "C" {', *texts["ForeignItem"], "}", listed("struct Types(", texts["Type"], ");"), "struct Kept { _: struct { a: b } }"]
-    parts += ["fn bodies() {", *texts["Stmt"], listed("let (", texts["Pat"], ") ="), listed("(", texts["Expr"], "); }")]
-    return Input("File", "", " ".join(parts))
+    return Input("File", "", " ".join([*parts, "fn bodies()", whole_block(inputs).text]))
 
 
 def listed(opening, texts, closing):
@@ -171,13 +187,18 @@ def found_in(status, wrote):
 
 def shown(it):
     """The line of an input, cut where it is long."""
-    return it.line if len(it.line) <= 100 else it.line[:100] + " .."
+    return shown_text(it.line)
+
+
+def shown_text(text):
+    """A text, cut where it is long."""
+    return text if len(text) <= 100 else text[:100] + " .."
 
 
 def sweep(options):
     """Sweeps the library's calls. Returns what was counted."""
     inputs = inputs_of(INPUTS.read_text(encoding="utf-8"))
-    inputs.append(whole_file(inputs))
+    inputs += [whole_block(inputs), whole_file(inputs)]
     lines = "".join(it.line + "\n" for it in inputs)
     counts, found = found_in(*(asked(options.bin, lines) if options.bin else tried(lines)))
     # what belongs to no input has the number 0
@@ -188,22 +209,34 @@ def sweep(options):
     return counts
 
 
-def runs_of(room):
-    """Of each run of the program whether it was refused a request, and its status, what it wrote, and what it said: for each of RUNS
-    as many runs as MOST says."""
+def asked_runs(inputs):
+    """The program's words and texts: those of RUNS, and the print of each input that is of a kind of the program."""
+    words = {name: word for word, name, _ in kinds.KINDS}
+    return RUNS + [(f"print {words[it.type]}", it.text) for it in inputs if it.type in words and not it.is_in_group]
+
+
+def most_of(text):
+    """How many runs there are on a text: no run makes so many requests."""
+    return MOST + len(text)
+
+
+def runs_of(room, asked):
+    """Of each run of the program whether it was refused a request, and its status, what it wrote, and what it said: on each of these texts
+    with the first request refused, the second, and so on."""
     counter, cases = room / "counter", room / "cases"
     cases.mkdir()
-    for at in range(len(RUNS) * MOST):
-        words, text = RUNS[at // MOST]
-        (cases / f"{at:04}").write_text(text)
-        (cases / f"{at:04}.args").write_text("".join(word + "\n" for word in words.split()))
-    command = [kit_over_heap(room, f'-DCOUNTER="{counter}"', f"-DMOST={MOST}"), "try"]
+    numbered = [(words, text, number) for words, text in asked for number in range(1, most_of(text) + 1)]
+    counter.with_name("counter.plan").write_bytes(b"".join(number.to_bytes(2, "little") for _, _, number in numbered))
+    for at, (words, text, _) in enumerate(numbered):
+        (cases / f"{at:06}").write_text(text)
+        (cases / f"{at:06}.args").write_text("".join(word + "\n" for word in words.split()))
+    command = [kit_over_heap(room, f'-DCOUNTER="{counter}"'), "try"]
     trial = ["--steps", "1000", "--cases", str(cases)]
     wrote, told, _ = try_tests.called(trial, room / "crates" / PROGRAM, SECONDS, b"", command)
     parts = re.split(r"(?m)^== \d+\n", wrote.decode())[1:]
     *said, _ = CASE.split(told)
     outcomes = [(int(status), part, said) for status, part, said in zip(said[1::2], parts, said[::2])]
-    if not len(outcomes) == len(parts) == len(counter.read_bytes()) == len(RUNS) * MOST:
+    if not len(outcomes) == len(parts) == len(counter.read_bytes()) == len(numbered):
         raise RuntimeError(f"{len(outcomes)} runs ended\n{try_tests.end_of(told)}")
     came = counter.with_name("counter.came").read_bytes().ljust(len(outcomes), b"\0")
     return [(byte != 0, outcome) for byte, outcome in zip(came, outcomes)]
@@ -227,13 +260,14 @@ def judged(words, runs):
 
 def program(_options):
     """Sweeps the program's runs. Returns what was counted."""
+    asked = asked_runs(inputs_of(INPUTS.read_text(encoding="utf-8")))
     with tempfile.TemporaryDirectory(prefix="memory-") as folder:
         room = Path(folder)
         try_tests.copied(TOP, room)
-        runs = runs_of(room)
+        runs = iter(runs_of(room, asked))
     counts = Counter()
-    for at, (words, _) in enumerate(RUNS):
-        counts += judged(words, runs[at * MOST : (at + 1) * MOST])
+    for words, text in asked:
+        counts += judged(f"{words} {shown_text(text)}", list(islice(runs, most_of(text))))
     return counts
 
 
