@@ -17,7 +17,7 @@ mod parsing;
 mod wrappers;
 
 pub use parsing::foreign_signature;
-pub(crate) use parsing::{Qualifiers, safe_or_unsafe, signature_rest, unsafe_only};
+pub(crate) use parsing::{Qualifiers, safe_or_unsafe, signature_rest, standing, unsafe_only};
 use std::alloc::{AllocError, Global};
 use syn_lower::attr::print_outer;
 use syn_lower::{Attribute, Generics, ReturnType, Type};
