@@ -42,6 +42,7 @@ pub struct Exit {
 ///
 /// If no request for memory, no read and no write fails, the output is written exactly where the rule of the command derives a tree from the
 /// tokens of the text: `done` says what is written, and `decided` why nothing is.
+#[tactic(auto, using(crate::proofs::Refusals::decided_of, crate::proofs::Refusals::aside_of))]
 pub fn run<R: Read, W: Output, V: Output>(
     alloc: Global,
     words: &[String],
