@@ -146,8 +146,10 @@ pub(crate) fn static_item(
 }
 
 /// `mut` where it is next.
+#[tactic(auto, using(syn_grammar::proofs::Each::static_mutability_is))]
 pub(crate) fn static_mutability(input: &mut ParseBuffer<'_>) -> StaticMutability
-    ensures reads { parse_form (optional w_mut) input.old ≡ Some (mutability_syntax result, input.new) }
+    ensures part { parse_form (optional w_mut) input.old ≡ Some (mutability_syntax result, input.new) }
+    ensures reads { parse_rule rules.static_mutability input.old ≡ Some (syntax_of_StaticMutability result, input.new) }
     ensures kept { left input.new ≤ left input.old }
 {
     match standing::<kind::Mut>(input) {
@@ -159,7 +161,6 @@ pub(crate) fn static_mutability(input: &mut ParseBuffer<'_>) -> StaticMutability
 impl StaticMutability {
     /// Parses `mut` where it is next. Else it reads nothing, and it is `StaticMutability::None`. It is `Ok` on every buffer, and takes no
     /// memory.
-    #[tactic(auto, using(syn_grammar::proofs::Each::static_mutability_is))]
     pub fn parse(input: &mut ParseBuffer<'_>) -> Result<StaticMutability>
         ensures outcome { Outcome IsSyntaxError syntax_of_StaticMutability (rule rules.static_mutability) input.old result input.new }
         ensures reads { Computes IsSyntaxError syntax_of_StaticMutability (parse_rule rules.static_mutability input.old) result input.new }
@@ -178,7 +179,6 @@ impl Read for StaticMutability {
 
     ghost meaning = { meaning_of_rule rules.static_mutability };
 
-    #[tactic(auto, using(syn_grammar::proofs::Each::static_mutability_is))]
     fn read(input: &mut ParseBuffer<'_>) -> Parsed<StaticMutability> {
         Ok(static_mutability(input))
     }
