@@ -69,6 +69,14 @@ static_mutability_none : DerivesAs static_mutability
 unfolding left is_end lookahead_at sees take_token take_lifetime take_mark take_group before rows_for rows run parse_rule
 static_mutability_none = computed static_mutability _ _ _ refl
 
+-- `a` prints `` and leaves `a`
+static_mutability_name : DerivesAs static_mutability
+    (leaf (ident (97 ∷ [])) (at 0 1) end)
+    (end)
+    (leaf (ident (97 ∷ [])) (at 0 1) end)
+unfolding left is_end lookahead_at sees take_token take_lifetime take_mark take_group before rows_for rows run parse_rule
+static_mutability_name = computed static_mutability _ _ _ refl
+
 -- no tokens prints ``
 static_mutability_empty : DerivesAs static_mutability
     (end)
