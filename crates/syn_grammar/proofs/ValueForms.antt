@@ -43,15 +43,18 @@ same_value_form k a b s t d e = (λ p. normal_value s ∙ ap bleach p ∙ sym (n
 
 pub value_print_is_read : ValuePrintIsRead
 value_print_is_read k ts x (s, d, v) =
-    let (u, e, n) = print_is_read k ts s d in
-    (value_of u, (u, subst (λ z. Derives k z u) (sym (print_value s) ∙ ap print v) e, refl),
-        normal_value u ∙ ap bleach n ∙ sym (normal_value s) ∙ ap normal v)
+    let (u, e, n) = print_is_read k ts s d in (
+      value_of u,
+      (u, subst (λ z. Derives k z u) (sym (print_value s) ∙ ap print v) e, refl),
+      normal_value u ∙ ap bleach n ∙ sym (normal_value s) ∙ ap normal v,
+    )
 
 pub values_same_form : ValuesSameForm
 values_same_form k a b x y (s, d, v) (t, e, w) = (λ p. sym (print_normal x) ∙ ap print p ∙ print_normal y, back)
   where
     print_of : (z : Syntax) (q : Syntax) → value_of z ≡ q → print q ≡ print z
     print_of z q h = ap print (sym h) ∙ print_value z
+
     back : plain (print x) ≡ plain (print y) → normal x ≡ normal y
     back p =
         let n = (same_form k a b s t d e).1 (ap plain (sym (print_of s x v)) ∙ p ∙ ap plain (print_of t y w)) in
