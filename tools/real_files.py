@@ -78,14 +78,14 @@ def is_attribute(level, i):
     return level[i].is_mark("#") and i + 1 < len(level) and (level[i + 1].kind == "[" or level[i + 1].is_mark("!"))
 
 
-def behind_attributes(level, i):
+def after_attributes(level, i):
     """Where the attributes at i end, inner ones too."""
     while i < len(level) and is_attribute(level, i):
         i += 3 if level[i + 1].is_mark("!") else 2
     return i
 
 
-def behind_visibility(level, i):
+def after_visibility(level, i):
     """Where the visibility at i ends, if one stands there."""
     if i < len(level) and level[i].text == "pub":
         i += 1
@@ -104,7 +104,7 @@ def ends_with_semicolon(level, i):
 
 def item_end(level, i):
     """The last token tree of the item that begins at i, behind its attributes."""
-    i = behind_visibility(level, i)
+    i = after_visibility(level, i)
     if i < len(level) and ends_with_semicolon(level, i):
         return next((j for j in range(i, len(level)) if level[j].is_mark(";")), None)
     return ending(level, i)
@@ -116,7 +116,7 @@ def items_of(level):
     while i < len(level) and is_attribute(level, i) and level[i + 1].is_mark("!"):
         i += 3
     while i < len(level):
-        end = item_end(level, behind_attributes(level, i))
+        end = item_end(level, after_attributes(level, i))
         if end is None:
             break
         found.append((level[i].start, level[end].end))

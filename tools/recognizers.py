@@ -67,7 +67,7 @@ UNENDED = ('&', ('rule', ('whole_expression',)), ('mark', False, ';'))
 # Tokens and marks of rules where Rust accepts a form that the grammar leaves out: src/left_out.rt recognizes it.
 PLACES = {
     ('expression_words', 'NameOrPathStart'): 'Expression', ('type_words', 'NameOrPathStart'): 'Type', ('more_type_words', 'NameOrPathStart'): 'Type', ('pattern', 'Name'): 'Pattern',
-    ('member', 'Name'): 'Member', ('loop_expression', 'Word(Word::In)'): 'Behind', ('local', 'Semi'): 'Behind',
+    ('member', 'Name'): 'Member', ('loop_expression', 'Word(Word::In)'): 'Following', ('local', 'Semi'): 'Following',
 }
 
 # Lists without which a part isn't printed, by their rules; src/fading.rt has the token before each.
@@ -118,21 +118,21 @@ equal_and_one v =
 equal_and_more v =
     apart (punctuation equals) λ q. apart (rule type) λ t. apart (rule where_clause) λ x. reads (punctuation semicolon) λ z. ends z
 statements_list =
-    reads (rule attributes) λ a. turns at_item (then (item_behind a) (rule statements)) (reads (rule statement_rest) λ s. ends s)
+    reads (rule attributes) λ a. turns at_item (then (item_after a) (rule statements)) (reads (rule statement_rest) λ s. ends s)
 statement_alone =
-    reads (rule attributes) λ a. turns at_item (item_behind a) (reads other_statement λ s. ends s)
+    reads (rule attributes) λ a. turns at_item (item_after a) (reads other_statement λ s. ends s)
 '''
 
 # Forms that are always parts of their own, since proofs and sources name them.
 CUT = [('generics', ('first', 'second')), ('member', ('second',)), ('type_words', ('second',)), ('more_type_words', ('second',)), ('expression_words', ('second',))]
 
 # Lookaheads that are not composed of others: a function decides each.
-TOLD = ['at_any_literal', 'at_lifetime', 'at_inner_attribute', 'at_arguments', 'at_association', 'at_turbofish', 'at_path_word',
+REPORTED = ['at_any_literal', 'at_lifetime', 'at_inner_attribute', 'at_arguments', 'at_association', 'at_turbofish', 'at_path_word',
         'at_pattern_path', 'at_macro', 'at_brace_macro', 'at_lone_crate', 'at_crate_macro', 'at_bang', 'at_postfix_mark',
         'at_block_like', 'at_whole_expression', 'at_unfinished', 'at_restriction', 'at_nameless_fields', 'at_parameter_end', 'at_predicate_end', 'at_item', 'at_receiver', 'at_no_macro_item']
 
 # Other lookaheads that a function decides.
-ALSO_TOLD = {
+ALSO_KNOWN = {
     ('and_also', ('at_mark', '<'), ('ahead', ('Before_parameter',))): 'Generics',
     ('at_literal', ('Str',)): 'StrLiteral', ('ahead', ('Before_colons',)): 'BeforeColons', ('ahead', ('Before_macro',)): 'BeforeMacro',
     ('and_also', ('at_word', 'union'), ('ahead', ('Begins_item',))): 'MarkedUnion', ('and_also', ('at_word', 'auto'), ('ahead', ('Begins_item',))): 'MarkedAuto',
@@ -195,7 +195,7 @@ def rules_in(form):
 class Writer:
     def __init__(self):
         self.source = Source(GRAMMAR)
-        self.told = {self.source.looks[name]: name for name in TOLD}
+        self.told = {self.source.looks[name]: name for name in REPORTED}
         self.texts = {text: name for name, text in reversed(self.source.texts.items())}
         self.rust = {text: name for name, text, *_ in DECLARATIONS + EXPRESSIONS + OTHERS + MARKS + LONG_MARKS}
         self.spelled = {name: text for text, name in self.rust.items()}
@@ -226,8 +226,8 @@ class Writer:
     def look(self, it):
         if it in self.told:
             return self.named('Look', camel(self.told[it][3:]))
-        if it in ALSO_TOLD:
-            return self.named('Look', ALSO_TOLD[it])
+        if it in ALSO_KNOWN:
+            return self.named('Look', ALSO_KNOWN[it])
         name, *rest = it
         if name == 'at_literal' and rest[0] == ('Int',):
             return self.named('Look', 'Integer')
@@ -574,7 +574,7 @@ class Writer:
                 'use Rattle.syn_grammar.specs.ItemPlan.{' + ', '.join([*where('ItemPlan'), used(['parts', 'absent', 'hidden', 'inherited', 'item_of', 'public', 'plain', 'unwritten'])]) + '}',
                 *[f'use Rattle.syn_grammar.specs.{file}.{{{", ".join(where(file))}}}' for file in ('MemberPlans', 'StatementPlans', 'SmallPlans', 'AlonePlans')],
                 'use Rattle.syn_recognize.specs.Stages.{planned_course}', 'use Rattle.syn_recognize.specs.declared.plan.Planned.TheVariants as Planned-m',
-                'use Rattle.syn_recognize.proofs.CourseProofs.{Goes, none, piece, untagged, both, text_behind}', 'use Rattle.syn_recognize.proofs.ImplCourses.{item_impl_meets, alone_impl_meets, lone_text}',
+                'use Rattle.syn_recognize.proofs.CourseProofs.{Goes, none, piece, untagged, both, text_after}', 'use Rattle.syn_recognize.proofs.ImplCourses.{item_impl_meets, alone_impl_meets, lone_text}',
                 'use Rattle.syn_recognize.proofs.SmallCourses.{rooted_meets, clause_meets, alone_clause_meets}', *lines, '']
 
     def stages_file(self):
@@ -747,7 +747,7 @@ class Writer:
         at = 'Rattle.syn_recognize.specs.declared'
         texts = [(self.rust[text], self.texts[text]) for text in sorted(self.words, key=self.rust.get)]
         marks = [(self.rust[text], self.texts[text]) for text in sorted(self.marks, key=self.rust.get)]
-        told = sorted(TOLD, key=lambda name: name in ('at_lifetime', 'at_path_word'))
+        told = sorted(REPORTED, key=lambda name: name in ('at_lifetime', 'at_path_word'))
         variants = sorted(self.variants)
         return [
             f'-- {WRITTEN}', '-- WHAT WORDS, MARKS, LOOKAHEADS, SHAPES AND RULES AS DATA DENOTE.', 'use Rattle.std.specs.Prelude.{ℕ, [], ◌∷◌, get_or}', 'use Rattle.syn_grammar.specs.Words.{Text, ' + ', '.join(name for _, name in texts + marks) + '}',
@@ -764,7 +764,7 @@ class Writer:
             'abbrev pub look_of : look.Look → Look', 'look_of Look-m.Ended = ended', 'look_of Look-m.Name = at_name', 'look_of (Look-m.Word w) = at_word (word_text w)',
             'look_of (Look-m.Mark m) = at_mark (mark_text m)', 'look_of (Look-m.Group d) = at_group (delimiter_of d)',
             "look_of (Look-m.Or' p c q d) = look_of c or_else look_of d", "look_of (Look-m.But' p c q d) = look_of c but_not look_of d",
-            'look_of Look-m.Integer = at_literal Int', 'look_of Look-m.EmptyGroup = at_empty_group', *[f'look_of Look-m.{camel(name[3:])} = {name}' for name in TOLD],
+            'look_of Look-m.Integer = at_literal Int', 'look_of Look-m.EmptyGroup = at_empty_group', *[f'look_of Look-m.{camel(name[3:])} = {name}' for name in REPORTED],
             'look_of Look-m.Generics = at_generics', 'look_of Look-m.StrLiteral = at_literal Str', 'look_of Look-m.BeforeColons = ahead Before_colons', 'look_of Look-m.BeforeMacro = ahead Before_macro',
             'look_of Look-m.MarkedUnion = at_word w_union and_also ahead Begins_item', 'look_of Look-m.MarkedAuto = at_word w_auto and_also ahead Begins_item',
             'look_of Look-m.InRestriction = at_in_restriction', 'look_of Look-m.LoneWord = at_lone_word', '',

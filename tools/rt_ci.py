@@ -95,7 +95,7 @@ REPORT = 60
 
 class Task:
     """A task of rt: what it waits for, its lines, the memory that it needs, and the call that does it. `takes` is the estimate of its
-    seconds of processor, and `behind` that of the longest chain of tasks that starts with it."""
+    seconds of processor, and `following` that of the longest chain of tasks that starts with it."""
 
     def __init__(self, key, given):
         self.key = key
@@ -176,17 +176,17 @@ class Lanes:
         taken = sum(it.memory(it.jobs) for it in self.running)
         return not any(it.jobs for it in self.running) or taken + task.memory(jobs) <= self.memory
 
-    def start(self, task, jobs, is_behind):
+    def start(self, task, jobs, is_after):
         task.jobs = jobs if task.lines else 0
         self.left.remove(task)
         self.running.append(task)
         self.progress.start(task)
         # each task has a thread of its own: a thread cannot lower its niceness again, and the processes that it starts inherit it
-        threading.Thread(target=self.call, args=(task, jobs, is_behind), daemon=True).start()
+        threading.Thread(target=self.call, args=(task, jobs, is_after), daemon=True).start()
 
-    def call(self, task, jobs, is_behind):
+    def call(self, task, jobs, is_after):
         try:
-            if is_behind:
+            if is_after:
                 os.setpriority(os.PRIO_PROCESS, threading.get_native_id(), NICE)
             self.ended.put((task, task.call(self.given, jobs), None))
         except BaseException as raised:  # pylint: disable=broad-except

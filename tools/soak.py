@@ -140,8 +140,8 @@ def fault_of(done):
         return f"with status 0 it says {said!r}" if said else ""
     if done.stdout:
         return f"with status {done.returncode} it writes {done.stdout[:60]!r}"
-    is_told = {1: REFUSAL.fullmatch(said), 3: said == "out of memory\n"}.get(done.returncode)
-    return "" if is_told else f"status {done.returncode} with {said!r}"
+    is_reported = {1: REFUSAL.fullmatch(said), 3: said == "out of memory\n"}.get(done.returncode)
+    return "" if is_reported else f"status {done.returncode} with {said!r}"
 
 
 def fault_of_print(program, words, text):

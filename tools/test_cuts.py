@@ -254,7 +254,7 @@ class Verdicts(Cuts):
         # the first piece ends within a character
         self.assertEqual(texts.failures(program, library, "Item", "struct É".encode(), "write"), (2, ""))
 
-    def test_a_failing_call_that_is_told_otherwise(self):
+    def test_a_failing_call_that_is_known_otherwise(self):
         library = texts.built_library(self.folder)
         for wrong in (TEXTS.replace("and 1)", "and 2)"), TEXTS.replace("sys.exit(sys.stderr.write('read", "(sys.stderr.write('red")):
             program = self.program("program", wrong)

@@ -60,7 +60,7 @@ class Programs(unittest.TestCase):
         self.assertEqual(len(faults), 6)
         self.assertIn("print, 8 levels: status 3 instead of 1, with a wrong token", faults)
 
-    def test_what_goes_on_for_ever_is_ended(self):
+    def test_what_continues_for_ever_is_ended(self):
         status, _seconds = run(self.program(PROGRAM), "print", "stmts", "(" * 200, 0.5)
         self.assertEqual(status, -9)
 

@@ -132,8 +132,8 @@ class Edits(InCrate):
             ("head", "fn free() -> u8 {", "fn free() -> u16 {"),
         ]:
             self.edit(name, old=old, new=new)
-        self.edit("body_behind_head", old="fn free() -> u8 {", new="fn free() -> u8 { return 2;")
-        self.assertEqual([it.name for it in self.edits()[1] if not it.is_outside], ["body_behind_head"])
+        self.edit("body_after_head", old="fn free() -> u8 {", new="fn free() -> u8 { return 2;")
+        self.assertEqual([it.name for it in self.edits()[1] if not it.is_outside], ["body_after_head"])
 
     def test_packs_hold_edits_of_different_functions(self):
         self.edit("a", new="        4")
@@ -193,7 +193,7 @@ class Refusals(InCrate):
     def answer(self, said=SAID, changed=("src/lib.rt",)):
         return answer_of(said, "low", Source(self.crate).function_around, set(changed))
 
-    def test_goals_are_told_of_their_functions(self):
+    def test_goals_are_known_of_their_functions(self):
         answer = self.answer()
         self.assertEqual(answer.of("low::Name::first").goals, ["returns-clause-value", "loop-c-preserved"])
         self.assertEqual(answer.of("low::Name::law").goals, ["step-requires"], "those of the closures in it")
@@ -205,7 +205,7 @@ class Refusals(InCrate):
         told = self.answer().of("low::other")
         self.assertEqual((told.goals, told.is_gone), ([], True))
 
-    def test_what_cannot_be_read_is_told(self):
+    def test_what_cannot_be_read_is_known(self):
         for line in ["src/lib.rt:3:1: error[E0308]: mismatched types", "./specs/Views.antt:3:1: error: `view`: `x` is not in scope"]:
             self.assertEqual(self.answer(line + "\n", ["src/lib.rt", "specs/Views.antt"]).unread, [line])
         false = "specs/Views.antt:3:1: error: `law`: the two sides differ"
@@ -284,10 +284,10 @@ class Checks(InCrate):
         self.assertFalse(prover.has_libraries([self.crate]))
 
     def test_checks_side_by_side_share_the_processors(self):
-        for name, stand_in in [("available", lambda: 10**12), ("sched_getaffinity", lambda _: range(5))]:
+        for name, present_in in [("available", lambda: 10**12), ("sched_getaffinity", lambda _: range(5))]:
             module = memory if name == "available" else os
             self.addCleanup(setattr, module, name, getattr(module, name))
-            setattr(module, name, stand_in)
+            setattr(module, name, present_in)
         self.assertEqual([prover.jobs(lanes) for lanes in (1, 2, 8)], [5, 3, 1])
 
 

@@ -116,7 +116,7 @@ class Fuzz(unittest.TestCase):
         self.assertIn("DIFFERENT visibility: pub\n  whole: table [Ident(text='pub', ", said)
         self.assertNotIn('DIFFERENT derive', said)
 
-    def test_a_rule_that_is_read_otherwise_is_told(self):
+    def test_a_rule_that_is_read_otherwise_is_known(self):
         _, said, _ = fuzz('--oracle', self.oracle('type'), '--count', '1')
         self.assertIn("DIFFERENT type: &'a mut T\n", said)
 

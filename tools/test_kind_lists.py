@@ -91,8 +91,8 @@ class Lists(unittest.TestCase):
     def test_a_kind_has_a_variant_a_rule_a_name_and_a_guess(self):
         kinds = items.item_kinds(self.source, self.rows)
         self.assertIn("        ItemKind::Ty => Some(Rule::LISTED_TYPE),\n        ItemKind::Verbatim => None,\n", items.rule_by(kinds))
-        self.assertIn('        ItemKind::Fn => name_behind(&trees, "fn"),\n        ItemKind::Ty => name(&after_mut(&behind(&trees, Marker::Word("type")))),\n', items.name_ahead(kinds))
-        self.assertIn('        "fn" => Some(ItemKind::Fn),\n        "macro" => Some(ItemKind::Verbatim),\n        "type" => known_before_name(ItemKind::Ty, behind),\n', items.known_by_word(kinds))
+        self.assertIn('        ItemKind::Fn => name_after(&trees, "fn"),\n        ItemKind::Ty => name(&after_mut(&following(&trees, Marker::Word("type")))),\n', items.name_ahead(kinds))
+        self.assertIn('        "fn" => Some(ItemKind::Fn),\n        "macro" => Some(ItemKind::Verbatim),\n        "type" => known_before_name(ItemKind::Ty, following),\n', items.known_by_word(kinds))
         self.assertIn('kind_word listed_type = codes "type"\n', items.spec_words(kinds))
         self.assertIn("syntax_of_Item (Item-m.Fn t) = Node (Case function t)\n", items.item_syntax(kinds))
 

@@ -104,7 +104,7 @@ class Kinds(unittest.TestCase):
         self.assertNotIn("attrs", same)
         self.assertNotIn("paren_token", same)
 
-    def test_a_struct_without_fields_stands_for_what_its_specification_says(self):
+    def test_a_struct_without_fields_present_for_what_its_specification_says(self):
         source = self.crate()
         self.assertNotIn("for Place", copies(source)[self.top / "src/copies/things.rt"])
         source = self.crate(specs=SPECS + "abbrev pub syntax_of_Place : Place → Syntax\n")
@@ -139,7 +139,7 @@ class Kinds(unittest.TestCase):
         self.assertIn("use Rattle.syn_lower.specs.Things.{syntax_of_Choice}\n", view)
         self.assertIn("view_Holder a = Node (syntax_of_Choice a.choice)\n", view)
 
-    def test_imports_stand_in_the_order_of_the_formatter(self):
+    def test_imports_present_in_the_order_of_the_formatter(self):
         lines = import_lines({"a::b": ["C", "D"], "a::b::e": ["f"], "a": ["g"], "a::c": ["H"]})
         self.assertEqual(lines, "use a::b::e::f;\nuse a::b::{C, D};\nuse a::c::H;\nuse a::g;\n")
 
@@ -150,7 +150,7 @@ class Kinds(unittest.TestCase):
         copy = copies(source)[self.top / "src/copies/things.rt"]
         self.assertIn("Choice::Mark(value) => Ok(Choice::Mark(*value)),\n            Choice::Whole(value) => Ok(Choice::Whole(value.try_clone(alloc)?)),\n", copy)
 
-    def test_a_variants_struct_that_leads_back_doesnt_stand_alone(self):
+    def test_a_variants_struct_that_leads_back_doesnt_present_alone(self):
         cycle = "#[cycle(patterns)]\n#[derive(Drop)]\npub"
         source = self.crate(f"/// A.\n{cycle} enum Pat {{\n    Paren(PatParen),\n}}\n\n/// B.\n{cycle} struct PatParen {{\n    pub pat: Box<Pat>,\n}}\n", "abbrev pub syntax_of_Pat : Pat → Syntax\n")
         for files, shared, own in (
@@ -170,7 +170,7 @@ class Kinds(unittest.TestCase):
         self.assertIn("copy_operand", copy.split("\n\n")[1], "and it is imported")
         self.assertNotIn("copy_boxed", copy)
 
-    def test_what_stands_behind_a_sign_is_in_its_group(self):
+    def test_what_present_after_a_sign_is_in_its_group(self):
         source = self.crate()
         view = plain_views(source, set())[self.top / "specs/Plain.antt"]
         self.assertIn("view_Thing a = Node (Both (maybe syntax_of_ident a.ident) (Both (maybe colon_syntax a.colon_token) (group_syntax Paren a.paren_token (list_of syntax_of_Choice comma_syntax a.parts.pairs a.parts.last))))\n", view)
@@ -225,12 +225,12 @@ class Kinds(unittest.TestCase):
     def test_the_page_says_what_reads_each_rule(self):
         source, table = self.crate_with_table()
         page = self.top / "PAGE.md"
-        page.write_text(f"Before.\n\n{HEAD}| `old` | Old. | `Old` |\n\nBehind.\n")
+        page.write_text(f"Before.\n\n{HEAD}| `old` | Old. | `Old` |\n\nAfter.\n")
         text = rows(source, table, page)
         self.assertTrue(text.startswith(f"Before.\n\n{HEAD}| `thing` | A thing. | `Thing` |\n"))
         self.assertIn("| `things` | Things. | `things` of `syn_tree/src/comma_lists.rt` |\n", text)
         self.assertIn("| `unread` | Unread. | recognized alone |\n", text)
-        self.assertTrue(text.endswith("| `others` | Things that end otherwise. | recognized alone |\n\nBehind.\n"))
+        self.assertTrue(text.endswith("| `others` | Things that end otherwise. | recognized alone |\n\nAfter.\n"))
         page.write_text("No table.\n")
         with self.assertRaises(Fault):
             rows(source, table, page)
@@ -240,24 +240,24 @@ class Kinds(unittest.TestCase):
         source = self.crate(TYPES + reading)
         table, page = self.top / "Table.antt", self.top / "PAGE.md"
         table.write_text(TABLE)
-        page.write_text(f"{HEAD}\nBehind.\n")
+        page.write_text(f"{HEAD}\nAfter.\n")
         self.assertIn("| `thing` | A thing. | `thing` of `syn_tree/src/things.rt` |\n", rows(source, table, page))
 
     def page_of(self, source, table_text):
         """The page of a table of this text, as this crate reads its rules."""
         table, page = self.top / "Table.antt", self.top / "PAGE.md"
         table.write_text(table_text)
-        page.write_text(f"{HEAD}\nBehind.\n")
+        page.write_text(f"{HEAD}\nAfter.\n")
         return rows(source, table, page)
 
-    def test_a_level_reads_its_operands_and_what_goes_on_them(self):
+    def test_a_level_reads_its_operands_and_what_continues_them(self):
         level = "\nimpl Level for Sums {\n    ghost chain_rule = { rules.sums };\n\n    ghost level_rule = { rules.sum };\n}\n"
         table = "--\n-- A sum.\ntable sum =\n    rule thing & rule sums\n--\n-- What is added.\ntable sums =\n    empty\n--\n-- A thing.\ntable thing =\n    empty\n"
         text = self.page_of(self.crate(TYPES + level), table)
         self.assertIn("| `sum` | A sum. | `Sums` of `syn_tree/src/things.rt` |\n", text)
         self.assertIn("| `sums` | What is added. | `Sums` of `syn_tree/src/things.rt` |\n", text)
 
-    def test_a_rule_that_stands_in_others_alone_is_read_within_them(self):
+    def test_a_rule_that_present_in_others_alone_is_read_within_them(self):
         table = """--
 -- A thing.
 table thing =
@@ -292,12 +292,12 @@ table entry =
         source = self.crate(TYPES + short + reading + opening)
         table, page = self.top / "Table.antt", self.top / "PAGE.md"
         table.write_text(TABLE)
-        page.write_text(f"{HEAD}\nBehind.\n")
+        page.write_text(f"{HEAD}\nAfter.\n")
         text = rows(source, table, page)
         self.assertIn("| `thing` | A thing. | `thing` of `syn_tree/src/things.rt` |\n", text)
         self.assertIn("| `things` | Things. | `opening` of `syn_tree/src/things.rt` |\n", text)
 
-    def test_a_value_may_stand_for_other_syntax_than_itself(self):
+    def test_a_value_may_present_for_other_syntax_than_itself(self):
         both = SPECS + "abbrev pub view_Thing : Thing-in.Inside → Syntax\nabbrev pub syntax_of_Thing : Syntax → Syntax\n"
         ending = endings(self.crate(specs=both))[self.top / "src/things.rt"]
         self.assertIn("    ghost view = { view_Thing };\n", ending)
@@ -345,7 +345,7 @@ fn answer_as_1(kind: &str, tokens: &TokenStream) -> Result<Answer, Failure> {
         ):
             self.assertIn(arm, text)
 
-    def test_a_type_tells_its_variant(self):
+    def test_a_type_settles_its_variant(self):
         source = self.crate()
         text = variant_names(source, ["Thing", "Choice"], ["Ident"])
         self.assertIn("impl Named for Thing {}\n", text)

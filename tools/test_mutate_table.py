@@ -67,7 +67,7 @@ class Mutations(unittest.TestCase):
         self.assertIn('GETS THROUGH: structure_rest: the name may also be `crate` (', said)
         self.assertEqual(said.count('GETS THROUGH:'), 1)
 
-    def test_wrong_tables_are_told(self):
+    def test_wrong_tables_are_known(self):
         right = self.table.read_text()
         for name, (old, new) in WRONG.items():
             with self.subTest(name):

@@ -51,7 +51,7 @@ class Recognizers(unittest.TestCase):
         for form in forms:
             self.assertLessEqual({*rules_in(form)}, {*self.writer.rules()}, form)
 
-    def test_rules_stand_in_the_order_of_the_table(self):
+    def test_rules_present_in_the_order_of_the_table(self):
         rules = self.writer.rules()
         self.assertEqual(rules, sorted(rules, key=self.writer.source.rules.index))
 
@@ -68,7 +68,7 @@ class Recognizers(unittest.TestCase):
     def test_names(self):
         self.assertEqual(camel('whole_expression'), 'WholeExpression')
 
-    def test_what_stands_is_what_would_be_written(self):
+    def test_what_present_is_what_would_be_written(self):
         self.assertEqual(check(self.copy()), (0, ''))
 
     def statics(self):
@@ -82,7 +82,7 @@ class Recognizers(unittest.TestCase):
         sizes = {name: size(form) for text in texts for name, form in re.findall(r'static (\w+): (?:Form|Plan) = (.*?);\n', text, re.DOTALL)}
         self.assertEqual({name: it for name, it in sizes.items() if it > LARGEST}, {})
 
-    def test_each_part_stands_in_one_form(self):
+    def test_each_part_present_in_one_form(self):
         forms = ' '.join(self.statics().values())
         named = re.findall(r'Part::(\w+)', forms)
         self.assertEqual(len(named), len(set(named)))
@@ -98,7 +98,7 @@ class Recognizers(unittest.TestCase):
         writer.files()
         return writer.parts
 
-    def test_each_place_stands_in_its_rule(self):
+    def test_each_place_present_in_its_rule(self):
         statics = self.statics()
         for (rule, it), place in PLACES.items():
             forms = ' '.join(form for name, form in statics.items() if re.fullmatch(rf'{rule.upper()}(_\d+)?', name))
@@ -110,7 +110,7 @@ class Recognizers(unittest.TestCase):
         with self.assertRaisesRegex(ValueError, 'a look of type refers to too many others'):
             writer.made('When(' + '&Look::' * LARGEST, [(('empty',), ()), (('empty',), ())])
 
-    def told_of_change(self, name, old, new):
+    def known_of_change(self, name, old, new):
         """What the script says of a copy in which this text of a file is changed."""
         folder = self.copy()
         file = folder / name
@@ -119,14 +119,14 @@ class Recognizers(unittest.TestCase):
         file.write_text(text.replace(old, new))
         return check(folder)
 
-    def test_a_changed_file_is_told(self):
-        status, said = self.told_of_change('crates/syn_recognize/src/rules/types.rt', 'Mark::Semi', 'Mark::Comma')
+    def test_a_changed_file_is_known(self):
+        status, said = self.known_of_change('crates/syn_recognize/src/rules/types.rt', 'Mark::Semi', 'Mark::Comma')
         self.assertEqual(status, 1)
         self.assertIn("src/rules/types.rt isn't as tools/recognizers.py writes it", said)
 
-    def test_a_changed_table_is_told(self):
+    def test_a_changed_table_is_known(self):
         length = 'semicolon & rule whole_expression else empty))'
-        status, said = self.told_of_change('crates/syn_grammar/specs/Table.antt', f'punctuation {length}', f'punctuation comma & punctuation {length}')
+        status, said = self.known_of_change('crates/syn_grammar/specs/Table.antt', f'punctuation {length}', f'punctuation comma & punctuation {length}')
         self.assertEqual(status, 1)
         self.assertIn('src/rules/types.rt', said)
 

@@ -39,7 +39,7 @@ class Calls:
 
 
 class Tasks(unittest.TestCase):
-    def test_each_is_done_once_behind_what_it_waits_for(self):
+    def test_each_is_done_once_after_what_it_waits_for(self):
         calls = Calls()
         for number in range(30):
             calls.add(number, [it for it in (number - 1, number - 7) if it >= 0], lines=number % 3)
@@ -65,7 +65,7 @@ class Tasks(unittest.TestCase):
         calls.run()
         self.assertEqual((calls.jobs["first"], calls.jobs["second"]), (4, 4))
 
-    def test_those_behind_share_what_is_left(self):
+    def test_those_after_share_what_is_left(self):
         calls = Calls()
         all_three = threading.Barrier(3)
         for name, lines in (("first", 10), ("second", 5), ("third", 4)):
@@ -277,7 +277,7 @@ class Copies(unittest.TestCase):
         self.assertEqual(rt_ci.all_but(["low"], self.top), ("low_tests", "high"))
         self.assertRaises(SystemExit, rt_ci.all_but, ["higher"], self.top)
 
-    def test_no_crate_of_the_product_stands_on_one_that_is_left_out(self):
+    def test_no_crate_of_the_product_present_on_one_that_is_left_out(self):
         for line in (rt_ci.TOP / "crates.txt").read_text().splitlines():
             name, _, below = line.partition(":")
             if name not in rt_ci.BESIDE:

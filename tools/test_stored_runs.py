@@ -35,7 +35,7 @@ faults: told\\n
 
 
 class Files(unittest.TestCase):
-    def test_what_a_value_stands_for(self):
+    def test_what_a_value_present_for(self):
         for text, wanted in (("", b""), ("a b", b"a b"), ("\\n\\t\\\\n", b"\n\t\\n"), ("\\xff\\x00", b"\xff\0"), ("é", "é".encode())):
             self.assertEqual(bytes_of(text), wanted)
         for text in ("\\", "\\q", "\\xf", "\\xFF"):
@@ -46,7 +46,7 @@ class Files(unittest.TestCase):
         self.assertEqual((one.name, one.args, one.input, one.status), ("one", ["a", "b c"], b"x\n\xff" * 3, 4))
         self.assertEqual((two.args, two.input, two.output, two.places), ([], b"", b"0  0\n", {}))
 
-    def test_what_stands_around_a_text(self):
+    def test_what_present_around_a_text(self):
         for lines, wanted in (("input: x\nbefore: (\nbehind: )\ntimes: 3", b"(((x)))"), ("before: -\ntimes: 2\ninput: 1", b"--1"), ("input: a\nbehind: +a", b"a+a")):
             self.assertEqual(runs_of(f"run: a\nargs:\nstatus: 0\n{lines}\n")[0].input, wanted)
 
@@ -82,7 +82,7 @@ class Programs(unittest.TestCase):
             setattr(run, name, value)
         return differences(str(self.built), run)
 
-    def test_what_is_as_told(self):
+    def test_what_is_as_known(self):
         self.assertEqual(self.found(), [])
         self.assertEqual(stored_runs.tried("program"), (2, 0))
 
@@ -102,7 +102,7 @@ class Programs(unittest.TestCase):
             self.build("program", f"#!/bin/sh\necho '2 a 9'\n{script}\nexit 4\n")
             self.assertEqual(len(self.found(begins=b"to")), 1, script)
 
-    def test_what_stands_in_the_place_of_pipes(self):
+    def test_what_present_in_the_place_of_pipes(self):
         self.build("program", "#!/bin/sh\n[ -e /proc/self/fd/1 ] && [ -e /proc/self/fd/2 ] || exit 7\ncat || exit 8\necho x || exit 9\n")
         for places, status in (({"stdout": "closed"}, 7), ({"stderr": "closed"}, 7), ({"stdin": "folder"}, 8), ({"stdout": "full"}, 8), ({}, 0)):
             said = self.found(places=places, input=b"y", status=status, output=b"yx\n", faults=b"")

@@ -91,7 +91,7 @@ class Trials(InCrate):
         self.says["        4\n"] = "src/lib.rt:29:9: error[E0308]: mismatched types"
         self.assertIn("can't read it", self.trial()[0][0])
 
-    def test_an_edit_outside_of_bodies_is_told_by_any_function(self):
+    def test_an_edit_outside_of_bodies_is_known_by_any_function(self):
         self.edit("a", clause="value", old="LIMIT: usize = 4", new="LIMIT: usize = 5")
         self.refused("= 5;", "Name::first", "returns-clause-value")
         self.assertEqual(self.trial(), ([], [1]))
@@ -107,7 +107,7 @@ class Trials(InCrate):
         wrong = ["b: names free by value, but refused were: value", "c: names Examples by shown, but refused were: value"]
         self.assertEqual(self.trial()[0], wrong)
 
-    def test_a_table_is_told_by_a_lemma_on_which_a_function_rests(self):
+    def test_a_table_is_known_by_a_lemma_on_which_a_function_rests(self):
         self.edit("a", clause="first by sound", old="LIMIT: usize = 4", new="LIMIT: usize = 5")
         self.edit("b", clause="first by sound", old="LIMIT: usize = 4", new="LIMIT: usize = 6")
         depends = "1 declaration that depends on `sound`, which was not admitted, was not checked: rest"
@@ -183,9 +183,9 @@ class Program(InCrate):
             both.wait(timeout=30)
             return f"fn {crate.name}::Name::first: no proof: `search` did not prove `returns-clause-value`\nonly=1 proved=0\n"
 
-        for name, stand_in in [("checked", checked), ("has_libraries", lambda crates, end: True)]:
+        for name, present_in in [("checked", checked), ("has_libraries", lambda crates, end: True)]:
             self.addCleanup(setattr, prover, name, getattr(prover, name))
-            setattr(prover, name, stand_in)
+            setattr(prover, name, present_in)
         with self.program() as (said, ended):
             self.assertEqual((ended, lanes_of), (0, {"low": 2, "high": 2}), said)
         self.assertIn("2 of 2 refused, 0 wrong", said)
@@ -204,9 +204,9 @@ class Program(InCrate):
                 alone.release()
             return f"fn {crate.name}::Name::first: no proof: `search` did not prove `returns-clause-value`\nonly=1 proved=0\n"
 
-        for name, stand_in in [("checked", checked), ("has_libraries", lambda crates, end: True)]:
+        for name, present_in in [("checked", checked), ("has_libraries", lambda crates, end: True)]:
             self.addCleanup(setattr, prover, name, getattr(prover, name))
-            setattr(prover, name, stand_in)
+            setattr(prover, name, present_in)
         with self.program("--one-by-one") as (said, ended):
             self.assertEqual((ended, tried), (0, [("low", 1, True), ("high", 1, True)]), said)
 

@@ -41,8 +41,8 @@ def verdict(found, wanted):
     status, output, faults = found
     if status not in (0, 1) or status != wanted[0]:
         return f"status {status} in place of {wanted[0]}, and {output + faults!r}"
-    is_told = faults == wanted[2] if wanted[2] is not None else REFUSAL.fullmatch(faults)
-    if not is_told:
+    is_reported = faults == wanted[2] if wanted[2] is not None else REFUSAL.fullmatch(faults)
+    if not is_reported:
         return f"{faults!r} in place of {wanted[2]!r}"
     if output == wanted[1]:
         return "refused" if status else "ok"

@@ -184,10 +184,10 @@ class Mutants:
                 yield f'{name} and {self.name(behind[0])} are exchanged', before + [behind[0], part] + behind[1:]
             if part[0] == 'when' and part[2] == NEVER:
                 continue  # a refusal
-            if not self.is_idle_behind(before + [part], part):
+            if not self.is_idle_after(before + [part], part):
                 yield f'{name} occurs twice', before + [part, part] + behind
             for place in [p for p in range(len(parts) + 1) if p != n]:
-                if place == 0 and guard is not None and not guard & first_set or self.is_idle_behind(parts[:place], part):
+                if place == 0 and guard is not None and not guard & first_set or self.is_idle_after(parts[:place], part):
                     continue
                 where = f'before {self.name(parts[place])}' if place < len(parts) else 'at the end'
                 yield f'{name} may occur again {where}', parts[:place] + [self.optional(part)] + parts[place:]
@@ -197,7 +197,7 @@ class Mutants:
             return part
         return ('when', self.first(part), part, EMPTY)
 
-    def is_idle_behind(self, before, part):
+    def is_idle_after(self, before, part):
         """The optional part never begins after these."""
         made = self.optional(part)
         return bool(before) and made[0] == 'when' and made[3] == EMPTY and made[1] in self.starts.never_follow([], sequence(before))

@@ -39,7 +39,7 @@ class Plans:
             head, *patterns = antt.lexemes(left)
             if head in self.forms:
                 self.forms[head] = antt.Expressions(antt.lexemes(right), head).whole()
-            elif head.endswith('_plan') or any(w in antt.lexemes(right) for w in WORDS) or head.startswith(('kept_', 'impl_', 'behind_', 'item_')):
+            elif head.endswith('_plan') or any(w in antt.lexemes(right) for w in WORDS) or head.startswith(('kept_', 'impl_', 'after_', 'item_')):
                 self.clauses.setdefault(head, []).append((patterns, antt.lexemes(right)))
 
     def plan(self, name):
@@ -364,10 +364,10 @@ class Proofs:
         kind = plan[0]
         if kind == 'impl':
             value = ' ∷ '.join([*plan[2][1:], 'z', '[]'])
-            return f'item_impl_meets {self.way} (λ z. item_of impl_definition {plan[2][0]} (parts ({value}))) _ {at} (λ z. text_behind {self.way} end {parts_text(behind(plan[1], ("piece", "z")))})'
+            return f'item_impl_meets {self.way} (λ z. item_of impl_definition {plan[2][0]} (parts ({value}))) _ {at} (λ z. text_after {self.way} end {parts_text(behind(plan[1], ("piece", "z")))})'
         if kind == 'alone':
             value = ' ∷ '.join([*plan[2], 'z', '[]'])
-            return f'alone_impl_meets {self.way} (λ z. Node (parts ({value}))) _ {at} (λ z. text_behind {self.way} end {parts_text(behind(plan[1], ("piece", "z")))})'
+            return f'alone_impl_meets {self.way} (λ z. Node (parts ({value}))) _ {at} (λ z. text_after {self.way} end {parts_text(behind(plan[1], ("piece", "z")))})'
         if kind == 'reads':
             n = plan[3]
             if plan[2][0] == 'tests':
@@ -393,7 +393,7 @@ class Proofs:
         kind, clause = equals[2], equals[2][2]
         end = clause[2][2]
         names = ' '.join(f'x{n}' for n in (plan[3], equals[3], kind[3], clause[3], end[3]))
-        return f'{name} {self.way} (λ {names}. {end[2][2]}) _ {at} (λ {names}. text_behind {self.way} end {parts_text(end[2][1])})'
+        return f'{name} {self.way} (λ {names}. {end[2][2]}) _ {at} (λ {names}. text_after {self.way} end {parts_text(end[2][1])})'
 
     def flat(self, plan, at):
         if plan[0] == 'reads':
@@ -405,7 +405,7 @@ class Proofs:
             return 'refl'
         if plan[2].lstrip('( ').startswith('impl_of '):
             return f'(refl, {self.lone_end(plan)})'
-        return f'(refl, text_behind {self.way} end {parts_text(plan[1])})'
+        return f'(refl, text_after {self.way} end {parts_text(plan[1])})'
 
     def lone_end(self, plan):
         """The end of an impl of a type of one word in parentheses, which has no generics."""
@@ -413,7 +413,7 @@ class Proofs:
         attributes, word, kind, body = (int(x[1:]) for x in words)
         value = f'item_of impl_definition x{attributes} (parts (absent ∷ absent ∷ absent ∷ x{word} ∷ z ∷ []))'
         before = both([('piece', f'x{attributes}'), NOTHING, NOTHING, NOTHING, ('piece', f'x{word}'), ('piece', 'z')])
-        return f'lone_text {self.way} (λ z. {value}) _ _ _ _ x{kind} x{body} (λ z. text_behind {self.way} end {parts_text(before)}) {self.lone[-1]} e{kind} e{body}'
+        return f'lone_text {self.way} (λ z. {value}) _ _ _ _ x{kind} x{body} (λ z. text_after {self.way} end {parts_text(before)}) {self.lone[-1]} e{kind} e{body}'
 
     def kept(self, plan):
         if plan[0] == 'reads':

@@ -81,7 +81,7 @@ class Summaries:
         return (told and summary.nullable) or any(mentions_fact(c) for c in summary.ends + summary.halts + summary.shuns)
 
     def summary(self, form, told=False):
-        """The summary of a form (`told`: the facts of its lookahead are tested)."""
+        """The summary of a form (`reported`: the facts of its lookahead are tested)."""
         method = self.pair_summary if form[0] == '&' else getattr(self, f'{form[0]}_summary')
         return method(form, told)
 
@@ -147,10 +147,10 @@ class Summaries:
         tells = len(text) == 1 or (len(text) == 2 and terminal == ('Punctuation', text) and all(lookaheads.deaf(text[-1], c) for c, _ in last))
         steady = quiet or (asking and tells)
         return Summary([terminal] if steady else [],
-                     [(f, terminal, self.told_of(asking, text, f, last)) for f in lookaheads.mark_first_set(text) if f != terminal or not steady],
+                     [(f, terminal, self.known_of(asking, text, f, last)) for f in lookaheads.mark_first_set(text) if f != terminal or not steady],
                      ends=[c for c, _ in last] if asking else [])
 
-    def told_of(self, asking, text, terminal, last):
+    def known_of(self, asking, text, terminal, last):
         """Facts that a mark of one character has neither where a longer mark is seen in the source nor in the print."""
         longer = len(text) == 1 and len(terminal[1]) > 1 and text != ':'
         still = asking and longer and all(self.lookaheads.deaf(text, c) for c, _ in last)

@@ -29,7 +29,7 @@ class Files:
         return {
             'specs/Rules.antt': self.rules_file(),
             'specs/RuleNumbers.antt': self.numbers_file(),
-            'specs/StandsAlone.antt': self.stands_alone_file(),
+            'specs/IsAlone.antt': self.present_alone_file(),
             'specs/Table.antt': self.table_file(),
             'proofs/Said.antt': self.said_file(),
             'proofs/Ranks.antt': self.ranks_file(),
@@ -72,13 +72,13 @@ class Files:
         """Its shown tokens are read before the same rest, and that rest may be cut off."""
         return not self.shown_said[rule, False].shuns and rule in self.cuts.cut and rule in self.cuts.spaced
 
-    def stands_alone(self, rule):
+    def is_alone(self, rule):
         """It tests nothing of what follows it that differs at the end, or the rest may be cut off."""
         summary, may = self.shown_said[rule, False], self.starts.lookaheads.may
         asks_nothing = not summary.ends and not any(may(look, ENDED) for look in summary.halts + summary.shuns)
         return rule in self.shown and (asks_nothing or self.cut_off(rule))
 
-    def stands_before(self, rule, mark):
+    def is_before(self, rule, mark):
         """Its tests of what follows it give the same result at the end as before this mark, or the rest may be cut off."""
         summary, lookaheads = self.shown_said[rule, False], self.starts.lookaheads
         same = lambda a: (all(lookaheads.agree(look, a, ENDED, ()) for look in summary.ends)
@@ -86,18 +86,18 @@ class Files:
         asks_alike = all(map(same, lookaheads.mark_first_set(mark))) and not any(lookaheads.may(look, ENDED) for look in summary.shuns)
         return rule in self.shown and (asks_alike or self.cut_off(rule))
 
-    def stands_before_line(self, rule):
-        marks = [self.writer.text(mark) for mark in SEPARATORS if self.stands_before(rule, mark)]
-        return f'stands_before {rule} = {self.writer.list(marks)}'
+    def present_before_line(self, rule):
+        marks = [self.writer.text(mark) for mark in SEPARATORS if self.is_before(rule, mark)]
+        return f'is_before {rule} = {self.writer.list(marks)}'
 
-    def stands_alone_file(self):
+    def present_alone_file(self):
         body = '\n'.join([
             self.block('what is shown of its value (all its tokens, in their order) is read as the same value',
                        'abbrev pub reads_shown : Rule → Bool', lambda k: f'reads_shown {k} = {truth(k in self.shown)}'),
             self.block('what is shown of a value that it read before any rest is read as the same value',
-                       'abbrev pub stands_alone : Rule → Bool', lambda k: f'stands_alone {k} = {truth(self.stands_alone(k))}'),
+                       'abbrev pub is_alone : Rule → Bool', lambda k: f'is_alone {k} = {truth(self.is_alone(k))}'),
             self.block('the same of a value that it read before one of these marks (of `,` and `;`)',
-                       'abbrev pub stands_before : Rule → List Text', self.stands_before_line),
+                       'abbrev pub is_before : Rule → List Text', self.present_before_line),
         ])
         modules = [('Rattle.std.specs.Prelude', PRELUDE)] + self.specs('Words', 'Rules')
         return self.file('The rules whose shown tokens are read again, and where a value that was read before a rest is read at the end; the proofs compute each line again.', modules, body)

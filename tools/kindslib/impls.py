@@ -68,7 +68,7 @@ def has_body(t):
     return t.has_attributes() and any(BODY_TYPES.fullmatch(kind) for _, kind in t.fields)
 
 
-def stands_alone(t):
+def is_alone(t):
     """Whether a type has copies, comparisons and prints of its own, beside the helpers of its family."""
     return not (t.is_nested and FAMILIES[t.family].argument) or t.name in ALONE
 
@@ -326,7 +326,7 @@ def nested_copy_text(source, t, uses):
             head = f"    fn copy_nested<N: {bound}{family.argument}>(\n        &self,\n        nested: &N,\n        alloc: Global,\n    ) -> Result<{t.name}, AllocError> {{\n"
         body = copy_body(source, t, uses)
         text = f"impl CopyNested{family.argument} for {t.name} {{\n{tactic(lemmas(source, t, 'copy', body))}{head}{body}    }}\n}}\n\n"
-    if not stands_alone(t):
+    if not is_alone(t):
         return text
     uses += [("crate::nested::copy", f"copy_{family.function}"), ("std::alloc", "Global"), ("syn_tokens", "error"), TRY_CLONE]
     call = f"copy_{family.function}(self, alloc)?"
@@ -497,7 +497,7 @@ def nested_compared_text(source, t, uses):
         if len(head) > 101:
             head = f"    fn is_same_nested<N: {bound}{family.argument}>(\n        &self,\n        nested: &N,\n        other: &{t.name},\n    ) -> bool {{\n"
         text = f"impl CompareNested{family.argument} for {t.name} {{\n{tactic(compared_lemmas(source, t, body))}{head}{body}    }}\n}}\n\n"
-    if not stands_alone(t):
+    if not is_alone(t):
         return text
     uses.append(("crate::nested::compare", f"is_same_{family.function}"))
     call = f"is_same_{family.function}(self, other)"
@@ -546,7 +546,7 @@ def compare_block(source, t):
     ghosts += [(f"{LOWEST}.specs.Equality", name) for name in ("IsSame", "IsEqual", "PrintsAlike")]
     ghosts += [("syn_tokens.specs.Comparison", name) for name in ("same_by", "same_equiv", "same_per")]
     uses = [(source.own_path_of(t.name), t.name)]
-    if not stands_alone(t):
+    if not is_alone(t):
         text = nested_compared_text(source, t, uses)
         uses += [COMPARED_TRAIT] if ".is_same(" in text else []
         return {"text": text.removesuffix("\n"), "uses": uses, "ghosts": []} if text else None
@@ -682,7 +682,7 @@ def nested_print_text(source, t, uses):
 }}
 
 """
-    if not stands_alone(t):
+    if not is_alone(t):
         return text
     uses += PRINT_USES
     if t.name == family.entry:
@@ -702,7 +702,7 @@ def nested_print_text(source, t, uses):
 
 def print_block(source, t):
     uses = [(source.own_path_of(t.name), t.name)]
-    if not stands_alone(t):
+    if not is_alone(t):
         text = nested_print_text(source, t, uses)
         uses += [PRINT_TRAIT] if ".print_in(" in text else []
         return {"text": text.removesuffix("\n"), "uses": uses, "ghosts": []} if text else None

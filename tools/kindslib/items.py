@@ -83,11 +83,11 @@ def name_of(place):
     if place is None:
         return "Ok(None)"
     if place == "!":
-        return "name(&behind(&trees, Marker::Bang))"
+        return "name(&following(&trees, Marker::Bang))"
     word, _, optional = place.partition(",")
     if optional not in ("", "mut"):
         raise Fault(f"name={place} in tools/kinds.txt: only `mut` may be between a keyword and a name")
-    return f'name(&after_mut(&behind(&trees, Marker::Word("{word}"))))' if optional else f'name_behind(&trees, "{word}")'
+    return f'name(&after_mut(&following(&trees, Marker::Word("{word}"))))' if optional else f'name_after(&trees, "{word}")'
 
 
 def name_ahead(kinds):
@@ -107,9 +107,9 @@ pub(crate) fn name_ahead(kind: ItemKind, input: &ParseBuffer<'_>) -> Parsed<Opti
 def known_by_word(kinds):
     by_word = {row.more["guess"]: variant for variant, row in kinds if "guess" in row.more} | dict.fromkeys(VERBATIM_WORDS, VERBATIM)
     plain = "".join(f'        "{word}" => Some(ItemKind::{by_word[word]}),\n' for word in sorted(by_word) if not word.endswith("?"))
-    before_name = "".join(f'        "{word[:-1]}" => known_before_name(ItemKind::{by_word[word]}, behind),\n' for word in sorted(by_word) if word.endswith("?"))
+    before_name = "".join(f'        "{word[:-1]}" => known_before_name(ItemKind::{by_word[word]}, following),\n' for word in sorted(by_word) if word.endswith("?"))
     return f"""/// The kind that a word suggests.
-fn known_by_word(word: &str, behind: &Cursor<'_>) -> Option<ItemKind> {{
+fn known_by_word(word: &str, following: &Cursor<'_>) -> Option<ItemKind> {{
     match word {{
 {plain}{before_name}        _ => None,
     }}

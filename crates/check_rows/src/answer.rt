@@ -26,11 +26,11 @@ pub(crate) fn answer<T: Parse + ToTokens + Outlined + TryClone + Compared + Part
         TreeQuestion::LeftRefused => left_refused::<T>(alloc, row.text),
         TreeQuestion::Compared => compared_texts::<T>(alloc, row),
     };
-    told(alloc, found)
+    reported(alloc, found)
 }
 
 /// An error but that of memory is told by its byte and words.
-pub(crate) fn told(alloc: Global, found: Result<String>) -> std::result::Result<String, Failure> {
+pub(crate) fn reported(alloc: Global, found: Result<String>) -> std::result::Result<String, Failure> {
     let error = match found {
         Ok(text) => return Ok(text),
         Err(error) => error,

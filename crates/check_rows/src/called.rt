@@ -1,6 +1,6 @@
 //! What comes of a text by a call that reads a tree at its front.
 
-use crate::answer::{fault_known, told, tree_shown};
+use crate::answer::{fault_known, reported, tree_shown};
 use crate::call::Call;
 use crate::compared::compared;
 use crate::failure::Failure;
@@ -27,7 +27,7 @@ pub(crate) fn called<C: Call>(
         TreeQuestion::LeftRefused => left_refused::<C>(alloc, row.text),
         TreeQuestion::Compared => compared_texts::<C>(alloc, row),
     };
-    told(alloc, found)
+    reported(alloc, found)
 }
 
 /// The tree at the front of the text.

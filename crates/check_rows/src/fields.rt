@@ -1,6 +1,6 @@
 //! The fields of a struct: what they are called, how many there are, and what comes of walking them.
 
-use crate::answer::told;
+use crate::answer::reported;
 use crate::failure::Failure;
 use crate::question::Heading;
 use std::alloc::{AllocError, Global};
@@ -53,7 +53,7 @@ pub(crate) fn fields_as(
     text: &str,
 ) -> std::result::Result<String, Failure> {
     match Said::from_word(word) {
-        Some(said) => told(alloc, said_of(alloc, said, text)),
+        Some(said) => reported(alloc, said_of(alloc, said, text)),
         None => Err(Failure::Malformed(heading.line, "no such word of fields")),
     }
 }

@@ -1,6 +1,6 @@
 //! What comes of a text by its canonical print.
 
-use crate::answer::{fault_known, told};
+use crate::answer::{fault_known, reported};
 use crate::failure::Failure;
 use crate::question::FormQuestion;
 use crate::row::Row;
@@ -21,7 +21,7 @@ pub(crate) fn form<T: Canonical + Drop>(
         FormQuestion::Refused => refusal::<T>(alloc, row.text),
         FormQuestion::Compared => compared::<T>(alloc, row),
     };
-    told(alloc, found)
+    reported(alloc, found)
 }
 
 /// The canonical print of the text. It is refused where that print has another one.

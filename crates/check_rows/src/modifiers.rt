@@ -1,6 +1,6 @@
 //! What is said where there are to be no modifiers.
 
-use crate::answer::told;
+use crate::answer::reported;
 use crate::failure::Failure;
 use crate::question::Heading;
 use std::alloc::{AllocError, Global};
@@ -18,11 +18,11 @@ pub(crate) fn faults_as(
     text: &str,
 ) -> std::result::Result<String, Failure> {
     match word {
-        "ItemConst" => told(alloc, faults_of::<ItemConst>(alloc, text)),
-        "ItemFn" => told(alloc, faults_of::<ItemFn>(alloc, text)),
-        "ItemImpl" => told(alloc, faults_of::<ItemImpl>(alloc, text)),
-        "ItemTrait" => told(alloc, faults_of::<ItemTrait>(alloc, text)),
-        "ItemType" => told(alloc, faults_of::<ItemType>(alloc, text)),
+        "ItemConst" => reported(alloc, faults_of::<ItemConst>(alloc, text)),
+        "ItemFn" => reported(alloc, faults_of::<ItemFn>(alloc, text)),
+        "ItemImpl" => reported(alloc, faults_of::<ItemImpl>(alloc, text)),
+        "ItemTrait" => reported(alloc, faults_of::<ItemTrait>(alloc, text)),
+        "ItemType" => reported(alloc, faults_of::<ItemType>(alloc, text)),
         _ => Err(Failure::Malformed(heading.line, "no modifiers of this kind")),
     }
 }
@@ -68,12 +68,12 @@ fn faults_of<T: Modified>(alloc: Global, text: &str) -> Result<String> {
     let tree: T = parsed(alloc, text)?;
     match tree.require_empty() {
         Ok(()) => Ok(String::from_str(alloc, "none")?),
-        Err(error) => Ok(all_told(alloc, &error)?),
+        Err(error) => Ok(all_known(alloc, &error)?),
     }
 }
 
 /// Each fault in its order: its first byte and its words, and `, ` before the next.
-fn all_told(alloc: Global, error: &Error) -> std::result::Result<String, AllocError> {
+fn all_known(alloc: Global, error: &Error) -> std::result::Result<String, AllocError> {
     let mut text = String::new(alloc);
     for fault in error.faults() {
         if !text.is_empty() {

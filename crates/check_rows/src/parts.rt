@@ -1,6 +1,6 @@
 //! What trees are made of.
 
-use crate::answer::told;
+use crate::answer::reported;
 use crate::failure::Failure;
 use crate::question::Heading;
 use crate::types::type_known;
@@ -20,9 +20,9 @@ pub(crate) fn parts_as(
     text: &str,
 ) -> std::result::Result<String, Failure> {
     match word {
-        "Type" => told(alloc, parts_of::<Type>(alloc, text)),
-        "GenericParam" => told(alloc, parts_of::<GenericParam>(alloc, text)),
-        "FieldsUnnamed" => told(alloc, parts_of::<FieldsUnnamed>(alloc, text)),
+        "Type" => reported(alloc, parts_of::<Type>(alloc, text)),
+        "GenericParam" => reported(alloc, parts_of::<GenericParam>(alloc, text)),
+        "FieldsUnnamed" => reported(alloc, parts_of::<FieldsUnnamed>(alloc, text)),
         _ => Err(Failure::Malformed(heading.line, "no parts of this kind")),
     }
 }

@@ -26,7 +26,7 @@ enum Place<'a> {
     /// Behind the heading, or a row.
     Within(Heading<'a>),
     /// Behind the text of a row, and the number of its line.
-    Behind(Heading<'a>, usize, &'a str),
+    Following(Heading<'a>, usize, &'a str),
 }
 
 /// Adds what is wrong with the rows, or with a line that isn't as it should be, and answers whether nothing is.
@@ -55,7 +55,7 @@ fn check_lines(
     let mut number = 0_usize;
     for line in source.lines() {
         number = number.saturating_add(1);
-        if let Place::Behind(heading, first, text) = place {
+        if let Place::Following(heading, first, text) = place {
             let row = Row {
                 line: first,
                 text,
@@ -63,10 +63,10 @@ fn check_lines(
             };
             check_row(alloc, &heading, &row, count, said)?;
         }
-        place = behind(place, number, line)?;
+        place = following(place, number, line)?;
     }
     match place {
-        Place::Behind(_, number, _) => Err(Failure::Malformed(number, NO_SECOND)),
+        Place::Following(_, number, _) => Err(Failure::Malformed(number, NO_SECOND)),
         _ => Ok(()),
     }
 }
@@ -116,8 +116,8 @@ fn check_as(
     count.rows = count.rows.saturating_add(1);
     if !is_right(heading, found.as_str(), row.want) {
         count.wrong = count.wrong.saturating_add(1);
-        tell(said, kind, row, heading.verdict)?;
-        tell_answers(said, found.as_str(), heading.verdict.unwrap_or(row.want))?;
+        settle(said, kind, row, heading.verdict)?;
+        settle_answers(said, found.as_str(), heading.verdict.unwrap_or(row.want))?;
     }
     Ok(())
 }
@@ -158,7 +158,7 @@ fn is_start(start: &str, words: &str, want: &str) -> bool {
 }
 
 /// Adds what says which row is wrong: its text, or its two texts.
-fn tell(
+fn settle(
     said: &mut String,
     kind: &str,
     row: &Row<'_>,
@@ -173,16 +173,16 @@ fn tell(
 }
 
 /// Adds what was found, and what it should be.
-fn tell_answers(said: &mut String, found: &str, want: &str) -> Result<(), AllocError> {
+fn settle_answers(said: &mut String, found: &str, want: &str) -> Result<(), AllocError> {
     writeln!(said, ": {found:?}, not {want:?}")
 }
 
 /// The place behind the line of this number.
-fn behind<'a>(place: Place<'a>, number: usize, line: &'a str) -> Result<Place<'a>, Failure> {
+fn following<'a>(place: Place<'a>, number: usize, line: &'a str) -> Result<Place<'a>, Failure> {
     match place {
         Place::Before => after_title(number, line),
         Place::Within(heading) => after_text(heading, number, line),
-        Place::Behind(heading, _, _) => Ok(Place::Within(heading)),
+        Place::Following(heading, _, _) => Ok(Place::Within(heading)),
     }
 }
 
@@ -209,5 +209,5 @@ fn after_text<'a>(
     if line.starts_with(' ') {
         return Err(Failure::Malformed(number, "no text before this line"));
     }
-    Ok(Place::Behind(heading, number, line))
+    Ok(Place::Following(heading, number, line))
 }

@@ -38,7 +38,7 @@ pub(crate) struct ParseAfter<W> {
 
 impl<T: Parse + ToTokens + Named + Drop, W: Ways<T>> Call<Given<T>> for ParseAfter<W> {
     fn once(given: &Given<T>, number: usize) -> Result<Run> {
-        let mut input = ParseBuffer::new(&given.behind);
+        let mut input = ParseBuffer::new(&given.following);
         let _before: Ident = input.parse()?;
         refuse(given.alloc, number);
         let answer = T::parse(&mut input);
@@ -57,13 +57,13 @@ pub(crate) struct ToHeldTokens;
 
 impl<T: ToTokens> Call<Given<T>> for ToHeldTokens {
     fn once(given: &Given<T>, number: usize) -> Result<Run> {
-        let mut tokens = given.behind.try_clone(given.alloc)?;
+        let mut tokens = given.following.try_clone(given.alloc)?;
         refuse(given.alloc, number);
         let answer = given.tree.to_tokens(&mut tokens);
         let is_refused = was_refused(given.alloc);
         let end = match answer {
-            Ok(()) => End::of_answer(is_stream(&tokens, &given.printed_behind)),
-            Err(error) => End::of_error(&error, is_stream(&tokens, &given.behind)),
+            Ok(()) => End::of_answer(is_stream(&tokens, &given.printed_after)),
+            Err(error) => End::of_error(&error, is_stream(&tokens, &given.following)),
         };
         Ok(Run { is_refused, end })
     }

@@ -28,9 +28,9 @@ pub(crate) struct Given<T> {
     pub(crate) tree: T,
     pub(crate) print: TokenStream,
     /// The tokens, behind one other.
-    pub(crate) behind: TokenStream,
+    pub(crate) following: TokenStream,
     /// The same, with the print behind them.
-    pub(crate) printed_behind: TokenStream,
+    pub(crate) printed_after: TokenStream,
 }
 
 impl<T: Parse + ToTokens + Named + Drop> Given<T> {
@@ -39,15 +39,15 @@ impl<T: Parse + ToTokens + Named + Drop> Given<T> {
         let alloc = input.alloc;
         let tree: T = parse2(input.tokens.try_clone(alloc)?)?;
         let print = printed(alloc, &tree)?;
-        let behind = both(&read_tokens(alloc, BEFORE)?, input.tokens)?;
-        let printed_behind = both(&behind, &print)?;
+        let following = both(&read_tokens(alloc, BEFORE)?, input.tokens)?;
+        let printed_after = both(&following, &print)?;
         Ok(Given {
             alloc,
             tokens: input.tokens.try_clone(alloc)?,
             tree,
             print,
-            behind,
-            printed_behind,
+            following,
+            printed_after,
         })
     }
 

@@ -17,7 +17,7 @@ pub(crate) fn sweep_lines(alloc: Global, source: &str, tally: &mut Tally) -> Res
         tally.begin_line();
         match sweep_line(alloc, line, tally) {
             Ok(()) => {}
-            Err(Failure::Broken) => tally.tell_broken()?,
+            Err(Failure::Broken) => tally.settle_broken()?,
             Err(failure) => return Err(failure),
         }
     }
@@ -54,12 +54,12 @@ fn tokens_of(alloc: Global, text: &str, tally: &mut Tally) -> Result<TokenStream
 
 fn text_and_tokens(alloc: Global, text: &str, tally: &mut Tally) -> Result<TokenStream, Failure> {
     let tokens = read_tokens(alloc, text)?;
-    let told = token_text(&tokens)?;
+    let reported = token_text(&tokens)?;
     let given = GivenText {
         alloc,
         text: String::from_str(alloc, text)?,
         tokens,
-        told,
+        reported,
     };
     sweep::<GivenText, ReadTokens>(&given, "read_tokens", tally)?;
     sweep::<GivenText, TokenText>(&given, "token_text", tally)?;

@@ -14,7 +14,7 @@ pub(crate) struct GivenText {
     pub(crate) alloc: Global,
     pub(crate) text: String,
     pub(crate) tokens: TokenStream,
-    pub(crate) told: String,
+    pub(crate) reported: String,
 }
 
 /// `read_tokens`
@@ -42,7 +42,7 @@ impl Call<GivenText> for TokenText {
         let answer = token_text(&given.tokens);
         let is_refused = was_refused(given.alloc);
         let end = match answer {
-            Ok(text) => End::of_answer(text.as_str() == given.told.as_str()),
+            Ok(text) => End::of_answer(text.as_str() == given.reported.as_str()),
             Err(error) => End::of_error(&error, true),
         };
         Ok(Run { is_refused, end })

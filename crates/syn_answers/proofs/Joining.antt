@@ -33,8 +33,8 @@ one_more l m a j p s h =
       back = λ r. s.back (inr r);
     }
 
-pub goes_on : (l : List Stream) (i : ℕ) (a j p : Stream) → i < length l → JoinedSoFar l (drop i l) j → IsWholePrint item (get_or l i a) p → JoinedSoFar l (drop (i + 1) l) (j ⧺ p)
-goes_on l i a j p h s w = one_more l (drop (i + 1) l) (get_or l i a) j p (subst (λ m. JoinedSoFar l m j) (at_drop_more (λ m. m) l i a h) s) w
+pub proceeds : (l : List Stream) (i : ℕ) (a j p : Stream) → i < length l → JoinedSoFar l (drop i l) j → IsWholePrint item (get_or l i a) p → JoinedSoFar l (drop (i + 1) l) (j ⧺ p)
+proceeds l i a j p h s w = one_more l (drop (i + 1) l) (get_or l i a) j p (subst (λ m. JoinedSoFar l m j) (at_drop_more (λ m. m) l i a h) s) w
 
 pub ends : (l : List Stream) (i : ℕ) (j : Stream) → length l ≤ i → JoinedSoFar l (drop i l) j → AllVisible l → IsJoined l j
 ends l i j h s v =

@@ -16,7 +16,7 @@ use Rattle.syn_grammar.specs.Promises.{Refused}
 use Rattle.syn_grammar.specs.Listed.{FileLists, ListedSoFar, Marker, a_word, a_bang, past, name_ahead}
 use Rattle.syn_grammar.proofs.EntryPoints.{item_agrees, item_of_kind}
 use Rattle.syn_grammar.proofs.RuleLemmas.{same_rule_eq}
-use Rattle.syn_grammar.proofs.ListedItems.{listing_begins, listing_goes_on, listing_ends, listing_refused}
+use Rattle.syn_grammar.proofs.ListedItems.{listing_begins, listing_continues, listing_ends, listing_refused}
 use Rattle.syn_tokens.specs.Cursors.{before_next}
 use Rattle.syn_tokens.specs.declared.stream.cursor.TokenTreeRef.{TokenTreeRef}
 use Rattle.syn_tokens.specs.declared.stream.cursor.TokenTreeRef.TheVariants as N
@@ -128,7 +128,7 @@ unbegun ts m e f = listing_refused.1 ts (ap (parse_rule rules.inner_attributes) 
 pub gone_on : (ts : Stream) (l n : List ListedItem) (m : Stream) (i : ListedItem) (r : Stream) (b : Bool) → ListedSoFar ts (map entry_of l) m → b ≡ sees ended m → b ≡ false →
     ((s : Syntax) × (parse_rule (rule_of i.kind) m ≡ Some (s, r)) × (name_of i.name ≡ name_ahead (rule_of i.kind) m)) → n ≡ l ++ i ∷ [] → ListedSoFar ts (map entry_of n) r
 gone_on ts l n m i r b h f e (s, p, q) g =
-    let x = listing_goes_on ts (map entry_of l) m (rule_of i.kind) s r h (sym f ∙ e) (is_kind i.kind) p in
+    let x = listing_continues ts (map entry_of l) m (rule_of i.kind) s r h (sym f ∙ e) (is_kind i.kind) p in
     subst (λ z. ListedSoFar ts z r) (ap (λ z. map entry_of l ++ (rule_of i.kind, z) ∷ []) (sym q) ∙ sym (map-append entry_of l (i ∷ [])) ∙ ap (map entry_of) (sym g)) x
 
 pub ends : (ts : Stream) (l : List ListedItem) (m : Stream) → ListedSoFar ts (map entry_of l) m → sees ended m ≡ true → FileLists ts (map entry_of l)

@@ -6,7 +6,7 @@ ghost use Rattle.syn_parse.specs.Refusals.{IsSyntax};
 ghost use Rattle.syn_recognize.specs.Names.{rule_of};
 ghost use Rattle.syn_tokens.specs.Faults.{IsSyntaxError};
 
-use crate::faults::told;
+use crate::faults::reported;
 use std::alloc::Global;
 use syn_parse::buffer::ParseBuffer;
 use syn_parse::read::refusal::Parsed;
@@ -30,7 +30,7 @@ fn printed_whole(rule: Rule, tokens: &TokenStream) -> Parsed<TokenStream>
 {
     match printed_to_end(rule, tokens) {
         Ok(printed) => Ok(printed),
-        Err(refusal) => Err(told(refusal, rule, tokens)),
+        Err(refusal) => Err(reported(refusal, rule, tokens)),
     }
 }
 
@@ -50,7 +50,7 @@ fn read_whole(rule: Rule, tokens: &TokenStream) -> Parsed<()>
 {
     match read_to_end(rule, tokens) {
         Ok(()) => Ok(()),
-        Err(refusal) => Err(told(refusal, rule, tokens)),
+        Err(refusal) => Err(reported(refusal, rule, tokens)),
     }
 }
 
@@ -93,7 +93,7 @@ pub fn same_form_by(rule: Rule, left: TokenStream, right: TokenStream) -> Result
 /// The items that these pieces spell, one each, as one file: the canonical prints of the pieces in order. No pieces give no tokens.
 ///
 /// Fails where some piece spells no item, or where memory is refused.
-#[tactic(auto, using(crate::proofs::Joining::begins, crate::proofs::Joining::goes_on, crate::proofs::Joining::ends), unfolding(syn_recognize::specs::Names::rule_of))]
+#[tactic(auto, using(crate::proofs::Joining::begins, crate::proofs::Joining::proceeds, crate::proofs::Joining::ends), unfolding(syn_recognize::specs::Names::rule_of))]
 pub fn join_items(alloc: Global, pieces: &[TokenStream]) -> Result<TokenStream>
     ensures joined { JoinOutcome IsSyntaxError pieces.now result }
 {

@@ -52,7 +52,7 @@ impl Expected {
 
 /// The refusal of a stream by this rule, with the text and the place that the tokens before the error give. Takes no memory, and passes the
 /// tokens before the error once.
-pub(crate) fn told(refusal: Refusal, rule: Rule, tokens: &TokenStream) -> Refusal
+pub(crate) fn reported(refusal: Refusal, rule: Rule, tokens: &TokenStream) -> Refusal
     ensures { IsSyntax result ↔ IsSyntax refusal }
 {
     match refusal {

@@ -7,21 +7,21 @@ use syn_tokens::stream::cursor::{Cursor, TokenTreeRef};
 pub(crate) fn guess(trees: &Cursor<'_>) -> ItemKind {
     let mut rest = trees.fork();
     for _tree in 0..trees.len() {
-        let Some((tree, behind)) = rest.split() else {
+        let Some((tree, following)) = rest.split() else {
             return ItemKind::Verbatim;
         };
-        if let Some(kind) = known_by(&tree, &behind) {
+        if let Some(kind) = known_by(&tree, &following) {
             return kind;
         }
-        rest = behind;
+        rest = following;
     }
     ItemKind::Verbatim
 }
 
 /// The kind that a tree and the trees after it suggest.
-fn known_by(tree: &TokenTreeRef<'_>, behind: &Cursor<'_>) -> Option<ItemKind> {
+fn known_by(tree: &TokenTreeRef<'_>, following: &Cursor<'_>) -> Option<ItemKind> {
     match tree {
-        TokenTreeRef::Ident(ident) => known_by_word(ident.text(), behind),
+        TokenTreeRef::Ident(ident) => known_by_word(ident.text(), following),
         TokenTreeRef::Literal(_) => None,
         TokenTreeRef::Punct(punct) => match punct.character() {
             '!' => Some(ItemKind::Macro),
@@ -38,7 +38,7 @@ fn known_by(tree: &TokenTreeRef<'_>, behind: &Cursor<'_>) -> Option<ItemKind> {
 // Written by tools/kinds.py down to the next such comment; edits are lost.
 
 /// The kind that a word suggests.
-fn known_by_word(word: &str, behind: &Cursor<'_>) -> Option<ItemKind> {
+fn known_by_word(word: &str, following: &Cursor<'_>) -> Option<ItemKind> {
     match word {
         "crate" => Some(ItemKind::ExternCrate),
         "enum" => Some(ItemKind::Enum),
@@ -51,8 +51,8 @@ fn known_by_word(word: &str, behind: &Cursor<'_>) -> Option<ItemKind> {
         "trait" => Some(ItemKind::Trait),
         "type" => Some(ItemKind::Ty),
         "use" => Some(ItemKind::Use),
-        "const" => known_before_name(ItemKind::Const, behind),
-        "union" => known_before_name(ItemKind::Union, behind),
+        "const" => known_before_name(ItemKind::Const, following),
+        "union" => known_before_name(ItemKind::Union, following),
         _ => None,
     }
 }
@@ -60,8 +60,8 @@ fn known_by_word(word: &str, behind: &Cursor<'_>) -> Option<ItemKind> {
 // End of the part that tools/kinds.py writes.
 
 /// This kind, if a name or `_` is next.
-fn known_before_name(kind: ItemKind, behind: &Cursor<'_>) -> Option<ItemKind> {
-    let (ident, _) = behind.split_ident()?;
+fn known_before_name(kind: ItemKind, following: &Cursor<'_>) -> Option<ItemKind> {
+    let (ident, _) = following.split_ident()?;
     match ident.text() {
         "_" => Some(kind),
         "auto" => None,

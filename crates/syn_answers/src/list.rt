@@ -10,7 +10,7 @@ ghost use Rattle.syn_tokens.specs.Faults.{IsSyntaxError};
 ghost use Rattle.syn_answers.specs.Listing.{entry_of, rule_of, KindTried, KindsTried, KindRead, ItemRead};
 ghost use Rattle.syn_answers.specs.declared.list.ItemKind.TheVariants as K;
 
-use crate::faults::told;
+use crate::faults::reported;
 use crate::guess::guess;
 use crate::names::name_ahead;
 use syn_parse::buffer::ParseBuffer;
@@ -237,7 +237,7 @@ fn listed(tokens: &TokenStream) -> Parsed<Vec<ListedItem>>
 {
     match listed_to_end(tokens) {
         Ok(list) => Ok(list),
-        Err(refusal) => Err(told(refusal, Rule::FILE, tokens)),
+        Err(refusal) => Err(reported(refusal, Rule::FILE, tokens)),
     }
 }
 

@@ -55,18 +55,18 @@ fn is_bang(tree: &TokenTreeRef<'_>) -> bool
 
 /// The trees after the first marker outside of groups; none where there is none.
 #[tactic(auto, using(crate::proofs::Listing::past_marker, crate::proofs::Listing::past_other, crate::proofs::Listing::one_shorter, crate::proofs::Listing::past_all))]
-fn behind<'a>(trees: &Cursor<'a>, marker: Marker) -> Cursor<'a>
+fn following<'a>(trees: &Cursor<'a>, marker: Marker) -> Cursor<'a>
     ensures { result ≡ past (marker_of marker) trees.now }
 {
     let mut rest = trees.fork();
     'trees: for _tree in 0..trees.len() {
-        let Some((tree, behind)) = rest.split() else {
+        let Some((tree, following)) = rest.split() else {
             return rest;
         };
         if is_marker(&tree, marker) {
-            return behind;
+            return following;
         }
-        rest = behind;
+        rest = following;
     }
     Cursor::none()
 }
@@ -75,11 +75,11 @@ fn behind<'a>(trees: &Cursor<'a>, marker: Marker) -> Cursor<'a>
 pub(crate) fn after_mut<'a>(trees: &Cursor<'a>) -> Cursor<'a>
     ensures { result ≡ grammar.past_mut trees.now }
 {
-    let Some((ident, behind)) = trees.split_ident() else {
+    let Some((ident, following)) = trees.split_ident() else {
         return trees.fork();
     };
     if ident.is("mut") {
-        return behind;
+        return following;
     }
     trees.fork()
 }
@@ -95,10 +95,10 @@ fn name(trees: &Cursor<'_>) -> Parsed<Option<Ident>>
 }
 
 /// The identifier after the first of these words outside of groups.
-fn name_behind(trees: &Cursor<'_>, word: &'static str) -> Parsed<Option<Ident>>
+fn name_after(trees: &Cursor<'_>, word: &'static str) -> Parsed<Option<Ident>>
     ensures { OrMemory IsSyntax result (λ name. name_of name ≡ grammar.name_past word.now trees.now) }
 {
-    name(&behind(trees, Marker::Word(word)))
+    name(&following(trees, Marker::Word(word)))
 }
 
 // Written by tools/kinds.py down to the next such comment; edits are lost.
@@ -109,20 +109,20 @@ pub(crate) fn name_ahead(kind: ItemKind, input: &ParseBuffer<'_>) -> Parsed<Opti
 {
     let trees = input.cursor();
     match kind {
-        ItemKind::Const => name_behind(&trees, "const"),
-        ItemKind::Enum => name_behind(&trees, "enum"),
-        ItemKind::ExternCrate => name_behind(&trees, "crate"),
-        ItemKind::Fn => name_behind(&trees, "fn"),
+        ItemKind::Const => name_after(&trees, "const"),
+        ItemKind::Enum => name_after(&trees, "enum"),
+        ItemKind::ExternCrate => name_after(&trees, "crate"),
+        ItemKind::Fn => name_after(&trees, "fn"),
         ItemKind::ForeignMod => Ok(None),
         ItemKind::Impl => Ok(None),
-        ItemKind::Macro => name(&behind(&trees, Marker::Bang)),
-        ItemKind::Mod => name_behind(&trees, "mod"),
-        ItemKind::Static => name(&after_mut(&behind(&trees, Marker::Word("static")))),
-        ItemKind::Struct => name_behind(&trees, "struct"),
-        ItemKind::Trait => name_behind(&trees, "trait"),
-        ItemKind::TraitAlias => name_behind(&trees, "trait"),
-        ItemKind::Ty => name_behind(&trees, "type"),
-        ItemKind::Union => name_behind(&trees, "union"),
+        ItemKind::Macro => name(&following(&trees, Marker::Bang)),
+        ItemKind::Mod => name_after(&trees, "mod"),
+        ItemKind::Static => name(&after_mut(&following(&trees, Marker::Word("static")))),
+        ItemKind::Struct => name_after(&trees, "struct"),
+        ItemKind::Trait => name_after(&trees, "trait"),
+        ItemKind::TraitAlias => name_after(&trees, "trait"),
+        ItemKind::Ty => name_after(&trees, "type"),
+        ItemKind::Union => name_after(&trees, "union"),
         ItemKind::Use => Ok(None),
         ItemKind::Verbatim => Ok(None),
     }

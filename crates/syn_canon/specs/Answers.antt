@@ -102,7 +102,7 @@ IsUndone words known failure = IsNoAnswer words known failure
 
 -- A run ended with the status of a failure that had a reason, and its line, with a newline, follows what the writer held, where that is
 -- known.
-pub record IsTold (words : List (String Global)) (known : Option (List ℕ)) (status : ℕ) (old new : Option (List ℕ)) : Type 0 where
+pub record IsReported (words : List (String Global)) (known : Option (List ℕ)) (status : ℕ) (old new : Option (List ℕ)) : Type 0 where
   pub failure : Failure
   pub is_undone : IsUndone words known failure
   pub is_status : status ≡ status_of failure

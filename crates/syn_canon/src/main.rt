@@ -5,7 +5,7 @@
 ghost use Rattle.std.specs.Prelude.{◌≡◌, ◌≢◌, ◌≤◌, ◌↔◌, ◌⊎◌, [], ◌++◌, true, codes, Err, OnOk, IfErr};
 ghost use Rattle.std.specs.Io.KnownBytes.{Appends};
 ghost use Rattle.syn_canon.specs.Words.{NoCommand};
-ghost use Rattle.syn_canon.specs.Answers.{IsDone, IsUndone, IsTold};
+ghost use Rattle.syn_canon.specs.Answers.{IsDone, IsUndone, IsReported};
 ghost use Rattle.syn_canon.specs.Statuses.{status_of, line_of};
 ghost use Rattle.syn_canon.specs.declared.failure.Failure.TheVariants.{Usage, WriteFailed, OutOfMemory};
 
@@ -32,7 +32,7 @@ pub struct Exit {
     /// are no command, and 3 where memory was refused.
     pub status: u8,
     /// Whether the line of a failure was written whole, and flushed. True where there was none to write.
-    pub is_told: bool,
+    pub is_reported: bool,
 }
 
 /// Runs the command that the words after the program's name denote on the text in `input`. Writes to `output` only once the whole output is
@@ -49,15 +49,15 @@ pub fn run<R: Read, W: Output, V: Output>(
     ensures done { result.status ≡ 0 → IsDone words.now (R.remaining input.old) (W.contents output.old) (W.contents output.new) }
     ensures flushed { result.status ≡ 0 → W.pending output.new ≡ [] }
     ensures quiet { result.status ≡ 0 → faults.new ≡ faults.old }
-    ensures told { result.is_told ≡ true → result.status ≢ 0 → IsTold words.now (R.remaining input.old) result.status (V.contents faults.old) (V.contents faults.new) }
-    ensures known_flushed { result.is_told ≡ true → result.status ≢ 0 → V.pending faults.new ≡ [] }
+    ensures reported { result.is_reported ≡ true → result.status ≢ 0 → IsReported words.now (R.remaining input.old) result.status (V.contents faults.old) (V.contents faults.new) }
+    ensures known_flushed { result.is_reported ≡ true → result.status ≢ 0 → V.pending faults.new ≡ [] }
     ensures unread { result.status ≡ 2 → input.new ≡ input.old }
     ensures unwritten { 2 ≤ result.status → output.new ≡ output.old }
 {
     match carry_out(alloc, words, input, output) {
         Ok(()) => Exit {
             status: 0,
-            is_told: true,
+            is_reported: true,
         },
         Err(failure) => report(faults, &failure),
     }
@@ -96,13 +96,13 @@ fn write_whole<W: Output>(output: &mut W, text: &str) -> io::Result<()>
 /// Writes the failure's line, and returns its status, even if the line can't be written.
 fn report<V: Output>(faults: &mut V, failure: &Failure) -> Exit
     ensures status { result.status ≡ status_of failure.now }
-    ensures told { result.is_told ≡ true → Appends (V.contents faults.old) (V.contents faults.new) (line_of failure.now ++ codes "\n") }
-    ensures flushed { result.is_told ≡ true → V.pending faults.new ≡ [] }
+    ensures reported { result.is_reported ≡ true → Appends (V.contents faults.old) (V.contents faults.new) (line_of failure.now ++ codes "\n") }
+    ensures flushed { result.is_reported ≡ true → V.pending faults.new ≡ [] }
 {
-    let is_told = write_line(faults, failure).is_ok();
+    let is_reported = write_line(faults, failure).is_ok();
     Exit {
         status: failure.status(),
-        is_told,
+        is_reported,
     }
 }
 

@@ -361,42 +361,42 @@ unfolding left is_end lookahead_at sees take_token take_lifetime take_mark take_
 inner_leaves_group = computed inner_attributes _ _ _ refl
 
 -- `#![a]#` prints `# ! [ a ]` and leaves `#`
-inner_behind_pound : DerivesAs inner_attributes
+inner_after_pound : DerivesAs inner_attributes
     (punct 35 true (at 0 1) (punct 33 false (at 1 2) (group Bracket (at 2 3) (at 4 5) (leaf (ident (97 ∷ [])) (at 3 4) end) (punct 35 false (at 5 6) end))))
     (punct 35 false call_site (punct 33 false call_site (group Bracket call_site call_site (leaf (ident (97 ∷ [])) call_site end) end)))
     (punct 35 false (at 5 6) end)
 unfolding left is_end lookahead_at sees take_token take_lifetime take_mark take_group before rows_for rows run parse_rule
-inner_behind_pound = computed inner_attributes _ _ _ refl
+inner_after_pound = computed inner_attributes _ _ _ refl
 
 -- `#![a]!` prints `# ! [ a ]` and leaves `!`
-inner_behind_bang : DerivesAs inner_attributes
+inner_after_bang : DerivesAs inner_attributes
     (punct 35 true (at 0 1) (punct 33 false (at 1 2) (group Bracket (at 2 3) (at 4 5) (leaf (ident (97 ∷ [])) (at 3 4) end) (punct 33 false (at 5 6) end))))
     (punct 35 false call_site (punct 33 false call_site (group Bracket call_site call_site (leaf (ident (97 ∷ [])) call_site end) end)))
     (punct 33 false (at 5 6) end)
 unfolding left is_end lookahead_at sees take_token take_lifetime take_mark take_group before rows_for rows run parse_rule
-inner_behind_bang = computed inner_attributes _ _ _ refl
+inner_after_bang = computed inner_attributes _ _ _ refl
 
 -- `#![a][b]` prints `# ! [ a ]` and leaves `[b]`
-inner_behind_group : DerivesAs inner_attributes
+inner_after_group : DerivesAs inner_attributes
     (punct 35 true (at 0 1) (punct 33 false (at 1 2) (group Bracket (at 2 3) (at 4 5) (leaf (ident (97 ∷ [])) (at 3 4) end) (group Bracket (at 5 6) (at 7 8) (leaf (ident (98 ∷ [])) (at 6 7) end) end))))
     (punct 35 false call_site (punct 33 false call_site (group Bracket call_site call_site (leaf (ident (97 ∷ [])) call_site end) end)))
     (group Bracket (at 5 6) (at 7 8) (leaf (ident (98 ∷ [])) (at 6 7) end) end)
 unfolding left is_end lookahead_at sees take_token take_lifetime take_mark take_group before rows_for rows run parse_rule
-inner_behind_group = computed inner_attributes _ _ _ refl
+inner_after_group = computed inner_attributes _ _ _ refl
 
 -- `#![a] b` prints `# ! [ a ]` and leaves `b`
-inner_behind_name : DerivesAs inner_attributes
+inner_after_name : DerivesAs inner_attributes
     (punct 35 true (at 0 1) (punct 33 false (at 1 2) (group Bracket (at 2 3) (at 4 5) (leaf (ident (97 ∷ [])) (at 3 4) end) (leaf (ident (98 ∷ [])) (at 6 7) end))))
     (punct 35 false call_site (punct 33 false call_site (group Bracket call_site call_site (leaf (ident (97 ∷ [])) call_site end) end)))
     (leaf (ident (98 ∷ [])) (at 6 7) end)
 unfolding left is_end lookahead_at sees take_token take_lifetime take_mark take_group before rows_for rows run parse_rule
-inner_behind_name = computed inner_attributes _ _ _ refl
+inner_after_name = computed inner_attributes _ _ _ refl
 
 -- `#![a] #!`: nothing is read
-inner_behind_end : NotDerived (rule inner_attributes)
+inner_after_end : NotDerived (rule inner_attributes)
     (punct 35 true (at 0 1) (punct 33 false (at 1 2) (group Bracket (at 2 3) (at 4 5) (leaf (ident (97 ∷ [])) (at 3 4) end) (punct 35 true (at 6 7) (punct 33 false (at 7 8) end)))))
 unfolding left is_end lookahead_at sees take_token take_lifetime take_mark take_group before rows_for rows run parse_rule
-inner_behind_end = not_read inner_attributes _ refl
+inner_after_end = not_read inner_attributes _ refl
 
 -- `#!![a]`: nothing is read
 inner_two_bangs : NotDerived (rule inner_attributes)

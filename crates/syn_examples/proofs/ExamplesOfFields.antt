@@ -240,10 +240,10 @@ unfolding left is_end lookahead_at sees take_token take_lifetime take_mark take_
 named_colon_first = not_read named_field _ refl
 
 -- `pub #[a] b: c`: nothing is read
-named_attribute_behind_pub : NotDerived (rule named_field)
+named_attribute_after_pub : NotDerived (rule named_field)
     (leaf (ident w_pub) (at 0 3) (punct 35 false (at 4 5) (group Bracket (at 5 6) (at 7 8) (leaf (ident (97 ∷ [])) (at 6 7) end) (leaf (ident (98 ∷ [])) (at 9 10) (punct 58 false (at 10 11) (leaf (ident (99 ∷ [])) (at 12 13) end))))))
 unfolding left is_end lookahead_at sees take_token take_lifetime take_mark take_group before rows_for rows run parse_rule
-named_attribute_behind_pub = not_read named_field _ refl
+named_attribute_after_pub = not_read named_field _ refl
 
 -- `a: b pub` prints `a : b` and leaves `pub`
 named_leaves_pub : DerivesAs named_field
@@ -650,10 +650,10 @@ unfolding left is_end lookahead_at sees take_token take_lifetime take_mark take_
 field_leaves_pound = computed unnamed_field _ _ _ refl
 
 -- `pub #[a] b`: nothing is read
-field_attribute_behind_pub : NotDerived (rule unnamed_field)
+field_attribute_after_pub : NotDerived (rule unnamed_field)
     (leaf (ident w_pub) (at 0 3) (punct 35 false (at 4 5) (group Bracket (at 5 6) (at 7 8) (leaf (ident (97 ∷ [])) (at 6 7) end) (leaf (ident (98 ∷ [])) (at 9 10) end))))
 unfolding left is_end lookahead_at sees take_token take_lifetime take_mark take_group before rows_for rows run parse_rule
-field_attribute_behind_pub = not_read unnamed_field _ refl
+field_attribute_after_pub = not_read unnamed_field _ refl
 
 -- `a pub` prints `a` and leaves `pub`
 field_leaves_public : DerivesAs unnamed_field
@@ -1020,10 +1020,10 @@ unfolding left is_end lookahead_at sees take_token take_lifetime take_mark take_
 variant_number = not_read variant _ refl
 
 -- `pub #[a] b`: nothing is read
-variant_attribute_behind_pub : NotDerived (rule variant)
+variant_attribute_after_pub : NotDerived (rule variant)
     (leaf (ident w_pub) (at 0 3) (punct 35 false (at 4 5) (group Bracket (at 5 6) (at 7 8) (leaf (ident (97 ∷ [])) (at 6 7) end) (leaf (ident (98 ∷ [])) (at 9 10) end))))
 unfolding left is_end lookahead_at sees take_token take_lifetime take_mark take_group before rows_for rows run parse_rule
-variant_attribute_behind_pub = not_read variant _ refl
+variant_attribute_after_pub = not_read variant _ refl
 
 -- `self`: nothing is read
 variant_self : NotDerived (rule variant)

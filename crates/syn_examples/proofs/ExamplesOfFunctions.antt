@@ -166,10 +166,10 @@ unfolding left is_end lookahead_at sees take_token take_lifetime take_mark take_
 inputs_second_receiver = not_read inputs _ refl
 
 -- `..., a: b`: nothing is read
-inputs_behind_variadic : NotDerived (rule inputs)
+inputs_after_variadic : NotDerived (rule inputs)
     (punct 46 true (at 0 1) (punct 46 true (at 1 2) (punct 46 true (at 2 3) (punct 44 false (at 3 4) (leaf (ident (97 ∷ [])) (at 5 6) (punct 58 false (at 6 7) (leaf (ident (98 ∷ [])) (at 8 9) end)))))))
 unfolding left is_end lookahead_at sees take_token take_lifetime take_mark take_group before first_span rows_for rows run parse_rule
-inputs_behind_variadic = not_read inputs _ refl
+inputs_after_variadic = not_read inputs _ refl
 
 -- `a: b, c<d>` prints `a : b , _ : c < d >`
 later_inputs_two : DerivesAs later_inputs

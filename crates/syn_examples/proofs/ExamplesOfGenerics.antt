@@ -88,10 +88,10 @@ unfolding left is_end lookahead_at sees take_token take_lifetime take_mark take_
 generics_const_two_types = not_read generics _ refl
 
 -- `<a: b:>`: nothing is read
-generics_colon_behind_bounds : NotDerived (rule generics)
+generics_colon_after_bounds : NotDerived (rule generics)
     (punct 60 false (at 0 1) (leaf (ident (97 ∷ [])) (at 1 2) (punct 58 false (at 2 3) (leaf (ident (98 ∷ [])) (at 4 5) (punct 58 true (at 5 6) (punct 62 false (at 6 7) end))))))
 unfolding left is_end lookahead_at sees take_token take_lifetime take_mark take_group before rows_for rows run parse_rule
-generics_colon_behind_bounds = not_read generics _ refl
+generics_colon_after_bounds = not_read generics _ refl
 
 -- no tokens prints ``
 generics_nothing : DerivesAs generics
@@ -134,10 +134,10 @@ unfolding left is_end lookahead_at sees take_token take_lifetime take_mark take_
 generics_const_two_names = not_read generics _ refl
 
 -- `<const a: b:>`: nothing is read
-generics_const_colon_behind : NotDerived (rule generics)
+generics_const_colon_after : NotDerived (rule generics)
     (punct 60 false (at 0 1) (leaf (ident w_const) (at 1 6) (leaf (ident (97 ∷ [])) (at 7 8) (punct 58 false (at 8 9) (leaf (ident (98 ∷ [])) (at 10 11) (punct 58 true (at 11 12) (punct 62 false (at 12 13) end)))))))
 unfolding left is_end lookahead_at sees take_token take_lifetime take_mark take_group before rows_for rows run parse_rule
-generics_const_colon_behind = not_read generics _ refl
+generics_const_colon_after = not_read generics _ refl
 
 -- `< = a b>`: nothing is read
 generics_default_first : NotDerived (rule generics)
@@ -170,10 +170,10 @@ unfolding left is_end lookahead_at sees take_token take_lifetime take_mark take_
 generics_named_in = not_read generics _ refl
 
 -- `<a #[b]>`: nothing is read
-generics_attribute_behind : NotDerived (rule generics)
+generics_attribute_after : NotDerived (rule generics)
     (punct 60 false (at 0 1) (leaf (ident (97 ∷ [])) (at 1 2) (punct 35 false (at 3 4) (group Bracket (at 4 5) (at 6 7) (leaf (ident (98 ∷ [])) (at 5 6) end) (punct 62 false (at 7 8) end)))))
 unfolding left is_end lookahead_at sees take_token take_lifetime take_mark take_group before rows_for rows run parse_rule
-generics_attribute_behind = not_read generics _ refl
+generics_attribute_after = not_read generics _ refl
 
 -- `<: a b>`: nothing is read
 generics_bounds_first : NotDerived (rule generics)
@@ -182,10 +182,10 @@ unfolding left is_end lookahead_at sees take_token take_lifetime take_mark take_
 generics_bounds_first = not_read generics _ refl
 
 -- `<const a: b const>`: nothing is read
-generics_const_behind : NotDerived (rule generics)
+generics_const_after : NotDerived (rule generics)
     (punct 60 false (at 0 1) (leaf (ident w_const) (at 1 6) (leaf (ident (97 ∷ [])) (at 7 8) (punct 58 false (at 8 9) (leaf (ident (98 ∷ [])) (at 10 11) (leaf (ident w_const) (at 12 17) (punct 62 false (at 17 18) end)))))))
 unfolding left is_end lookahead_at sees take_token take_lifetime take_mark take_group before rows_for rows run parse_rule
-generics_const_behind = not_read generics _ refl
+generics_const_after = not_read generics _ refl
 
 -- `<self>`: nothing is read
 generics_self : NotDerived (rule generics)
@@ -250,10 +250,10 @@ unfolding left is_end lookahead_at sees take_token take_lifetime take_mark take_
 generics_crate = not_read generics _ refl
 
 -- `<a = b = >`: nothing is read
-generics_default_equals_behind : NotDerived (rule generics)
+generics_default_equals_after : NotDerived (rule generics)
     (punct 60 false (at 0 1) (leaf (ident (97 ∷ [])) (at 1 2) (punct 61 false (at 3 4) (leaf (ident (98 ∷ [])) (at 5 6) (punct 61 false (at 7 8) (punct 62 false (at 9 10) end))))))
 unfolding left is_end lookahead_at sees take_token take_lifetime take_mark take_group before rows_for rows run parse_rule
-generics_default_equals_behind = not_read generics _ refl
+generics_default_equals_after = not_read generics _ refl
 
 -- `<default>` prints `< default >`
 generics_named_default : DerivesAs generics
@@ -330,10 +330,10 @@ unfolding left is_end lookahead_at sees take_token take_lifetime take_mark take_
 generics_const_twice = not_read generics _ refl
 
 -- `<const a const: b>`: nothing is read
-generics_const_behind_name : NotDerived (rule generics)
+generics_const_after_name : NotDerived (rule generics)
     (punct 60 false (at 0 1) (leaf (ident w_const) (at 1 6) (leaf (ident (97 ∷ [])) (at 7 8) (leaf (ident w_const) (at 9 14) (punct 58 false (at 14 15) (leaf (ident (98 ∷ [])) (at 16 17) (punct 62 false (at 17 18) end)))))))
 unfolding left is_end lookahead_at sees take_token take_lifetime take_mark take_group before rows_for rows run parse_rule
-generics_const_behind_name = not_read generics _ refl
+generics_const_after_name = not_read generics _ refl
 
 -- `<const safe: a>` prints `< const safe : a >`
 generics_const_safe : DerivesAs generics
@@ -414,10 +414,10 @@ unfolding left is_end lookahead_at sees take_token take_lifetime take_mark take_
 generics_const_before_type = not_read generics _ refl
 
 -- `<const a: b = 1 = >`: nothing is read
-generics_const_equals_behind : NotDerived (rule generics)
+generics_const_equals_after : NotDerived (rule generics)
     (punct 60 false (at 0 1) (leaf (ident w_const) (at 1 6) (leaf (ident (97 ∷ [])) (at 7 8) (punct 58 false (at 8 9) (leaf (ident (98 ∷ [])) (at 10 11) (punct 61 false (at 12 13) (leaf (literal Int (49 ∷ [])) (at 14 15) (punct 61 false (at 16 17) (punct 62 false (at 18 19) end)))))))))
 unfolding left is_end lookahead_at sees take_token take_lifetime take_mark take_group before rows_for rows run parse_rule
-generics_const_equals_behind = not_read generics _ refl
+generics_const_equals_after = not_read generics _ refl
 
 -- `<const default: a>` prints `< const default : a >`
 generics_const_named_default : DerivesAs generics
@@ -742,10 +742,10 @@ unfolding left is_end lookahead_at sees take_token take_lifetime take_mark take_
 trait_two_lists = not_read trait_bound _ refl
 
 -- `for<> for a`: nothing is read
-trait_for_behind : NotDerived (rule trait_bound)
+trait_for_after : NotDerived (rule trait_bound)
     (leaf (ident w_for) (at 0 3) (punct 60 true (at 3 4) (punct 62 false (at 4 5) (leaf (ident w_for) (at 6 9) (leaf (ident (97 ∷ [])) (at 10 11) end)))))
 unfolding left is_end lookahead_at sees take_token take_lifetime take_mark take_group before rows_for rows run parse_rule
-trait_for_behind = not_read trait_bound _ refl
+trait_for_after = not_read trait_bound _ refl
 
 -- `for for<> a`: nothing is read
 trait_for_for : NotDerived (rule trait_bound)
@@ -1098,16 +1098,16 @@ unfolding left is_end lookahead_at sees take_token take_lifetime take_mark take_
 predicate_for_without_list = not_read predicate _ refl
 
 -- `a: for<>`: nothing is read
-predicate_for_behind_colon : NotDerived (rule predicate)
+predicate_for_after_colon : NotDerived (rule predicate)
     (leaf (ident (97 ∷ [])) (at 0 1) (punct 58 false (at 1 2) (leaf (ident w_for) (at 3 6) (punct 60 true (at 6 7) (punct 62 false (at 7 8) end)))))
 unfolding left is_end lookahead_at sees take_token take_lifetime take_mark take_group before rows_for rows run parse_rule
-predicate_for_behind_colon = not_read predicate _ refl
+predicate_for_after_colon = not_read predicate _ refl
 
 -- `a for<>:`: nothing is read
-predicate_for_behind_type : NotDerived (rule predicate)
+predicate_for_after_type : NotDerived (rule predicate)
     (leaf (ident (97 ∷ [])) (at 0 1) (leaf (ident w_for) (at 2 5) (punct 60 true (at 5 6) (punct 62 true (at 6 7) (punct 58 false (at 7 8) end)))))
 unfolding left is_end lookahead_at sees take_token take_lifetime take_mark take_group before rows_for rows run parse_rule
-predicate_for_behind_type = not_read predicate _ refl
+predicate_for_after_type = not_read predicate _ refl
 
 -- `for<> <> a:`: nothing is read
 predicate_for_two_lists : NotDerived (rule predicate)
@@ -1116,10 +1116,10 @@ unfolding left is_end lookahead_at sees take_token take_lifetime take_mark take_
 predicate_for_two_lists = not_read predicate _ refl
 
 -- `for<> for a:`: nothing is read
-predicate_for_behind_list : NotDerived (rule predicate)
+predicate_for_after_list : NotDerived (rule predicate)
     (leaf (ident w_for) (at 0 3) (punct 60 true (at 3 4) (punct 62 false (at 4 5) (leaf (ident w_for) (at 6 9) (leaf (ident (97 ∷ [])) (at 10 11) (punct 58 false (at 11 12) end))))))
 unfolding left is_end lookahead_at sees take_token take_lifetime take_mark take_group before rows_for rows run parse_rule
-predicate_for_behind_list = not_read predicate _ refl
+predicate_for_after_list = not_read predicate _ refl
 
 -- `for for<> a:`: nothing is read
 predicate_for_for : NotDerived (rule predicate)

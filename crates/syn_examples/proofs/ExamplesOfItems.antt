@@ -188,16 +188,16 @@ unfolding left is_end lookahead_at sees take_token take_lifetime take_mark take_
 struct_rest_generics_first = not_read structure_rest _ refl
 
 -- `struct a pub;`: nothing is read
-struct_rest_public_behind : NotDerived (rule structure_rest)
+struct_rest_public_after : NotDerived (rule structure_rest)
     (leaf (ident w_struct) (at 0 6) (leaf (ident (97 ∷ [])) (at 7 8) (leaf (ident w_pub) (at 9 12) (punct 59 false (at 12 13) end))))
 unfolding left is_end lookahead_at sees take_token take_lifetime take_mark take_group before rows_for rows run parse_rule
-struct_rest_public_behind = not_read structure_rest _ refl
+struct_rest_public_after = not_read structure_rest _ refl
 
 -- `struct a struct;`: nothing is read
-struct_rest_word_behind : NotDerived (rule structure_rest)
+struct_rest_word_after : NotDerived (rule structure_rest)
     (leaf (ident w_struct) (at 0 6) (leaf (ident (97 ∷ [])) (at 7 8) (leaf (ident w_struct) (at 9 15) (punct 59 false (at 15 16) end))))
 unfolding left is_end lookahead_at sees take_token take_lifetime take_mark take_group before rows_for rows run parse_rule
-struct_rest_word_behind = not_read structure_rest _ refl
+struct_rest_word_after = not_read structure_rest _ refl
 
 -- `struct fn;`: nothing is read
 struct_rest_keyword : NotDerived (rule structure_rest)
@@ -574,16 +574,16 @@ unfolding left is_end lookahead_at sees take_token take_lifetime take_mark take_
 enum_rest_no_comma = not_read enumeration_rest _ refl
 
 -- `enum a enum {}`: nothing is read
-enum_rest_word_behind : NotDerived (rule enumeration_rest)
+enum_rest_word_after : NotDerived (rule enumeration_rest)
     (leaf (ident w_enum) (at 0 4) (leaf (ident (97 ∷ [])) (at 5 6) (leaf (ident w_enum) (at 7 11) (group Brace (at 12 13) (at 13 14) end end))))
 unfolding left is_end lookahead_at sees take_token take_lifetime take_mark take_group before rows_for rows run parse_rule
-enum_rest_word_behind = not_read enumeration_rest _ refl
+enum_rest_word_after = not_read enumeration_rest _ refl
 
 -- `enum a pub {}`: nothing is read
-enum_rest_public_behind : NotDerived (rule enumeration_rest)
+enum_rest_public_after : NotDerived (rule enumeration_rest)
     (leaf (ident w_enum) (at 0 4) (leaf (ident (97 ∷ [])) (at 5 6) (leaf (ident w_pub) (at 7 10) (group Brace (at 11 12) (at 12 13) end end))))
 unfolding left is_end lookahead_at sees take_token take_lifetime take_mark take_group before rows_for rows run parse_rule
-enum_rest_public_behind = not_read enumeration_rest _ refl
+enum_rest_public_after = not_read enumeration_rest _ refl
 
 -- `enum _ {}`: nothing is read
 enum_rest_underscore : NotDerived (rule enumeration_rest)
@@ -870,10 +870,10 @@ unfolding left is_end lookahead_at sees take_token take_lifetime take_mark take_
 union_rest_generic = computed union_item_rest _ _ _ refl
 
 -- `union a union {}`: nothing is read
-union_rest_word_behind : NotDerived (rule union_item_rest)
+union_rest_word_after : NotDerived (rule union_item_rest)
     (leaf (ident w_union) (at 0 5) (leaf (ident (97 ∷ [])) (at 6 7) (leaf (ident w_union) (at 8 13) (group Brace (at 14 15) (at 15 16) end end))))
 unfolding left is_end lookahead_at sees take_token take_lifetime take_mark take_group before rows_for rows run parse_rule
-union_rest_word_behind = not_read union_item_rest _ refl
+union_rest_word_after = not_read union_item_rest _ refl
 
 -- `union union {}` prints `union union { }`
 union_rest_named_union : DerivesAs union_item_rest
@@ -892,10 +892,10 @@ unfolding left is_end lookahead_at sees take_token take_lifetime take_mark take_
 union_rest_no_generics = computed union_item_rest _ _ _ refl
 
 -- `union a pub {}`: nothing is read
-union_rest_public_behind : NotDerived (rule union_item_rest)
+union_rest_public_after : NotDerived (rule union_item_rest)
     (leaf (ident w_union) (at 0 5) (leaf (ident (97 ∷ [])) (at 6 7) (leaf (ident w_pub) (at 8 11) (group Brace (at 12 13) (at 13 14) end end))))
 unfolding left is_end lookahead_at sees take_token take_lifetime take_mark take_group before rows_for rows run parse_rule
-union_rest_public_behind = not_read union_item_rest _ refl
+union_rest_public_after = not_read union_item_rest _ refl
 
 -- `union _ {}`: nothing is read
 union_rest_underscore : NotDerived (rule union_item_rest)

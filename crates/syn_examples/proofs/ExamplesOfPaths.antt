@@ -126,10 +126,10 @@ unfolding left is_end lookahead_at sees take_token take_lifetime take_mark take_
 path_leaves_bang = computed module_path _ _ _ refl
 
 -- `a::(b)`: nothing is read
-path_group_behind : NotDerived (rule module_path)
+path_group_after : NotDerived (rule module_path)
     (leaf (ident (97 ∷ [])) (at 0 1) (punct 58 true (at 1 2) (punct 58 false (at 2 3) (group Paren (at 3 4) (at 5 6) (leaf (ident (98 ∷ [])) (at 4 5) end) end))))
 unfolding left is_end lookahead_at sees take_token take_lifetime take_mark take_group before rows_for rows run parse_rule
-path_group_behind = not_read module_path _ refl
+path_group_after = not_read module_path _ refl
 
 -- `a::b::c` prints `a :: b :: c`
 words_three : DerivesAs module_words
@@ -236,10 +236,10 @@ unfolding left is_end lookahead_at sees take_token take_lifetime take_mark take_
 words_literal = not_read module_words _ refl
 
 -- `a::1`: nothing is read
-words_literal_behind : NotDerived (rule module_words)
+words_literal_after : NotDerived (rule module_words)
     (leaf (ident (97 ∷ [])) (at 0 1) (punct 58 true (at 1 2) (punct 58 false (at 2 3) (leaf (literal Int (49 ∷ [])) (at 3 4) end))))
 unfolding left is_end lookahead_at sees take_token take_lifetime take_mark take_group before rows_for rows run parse_rule
-words_literal_behind = not_read module_words _ refl
+words_literal_after = not_read module_words _ refl
 
 -- `(a)`: nothing is read
 words_group : NotDerived (rule module_words)
@@ -422,12 +422,12 @@ unfolding left is_end lookahead_at sees take_token take_lifetime take_mark take_
 vis_two_groups = computed visibility _ _ _ refl
 
 -- `pub(crate) pub` prints `pub ( crate )` and leaves `pub`
-vis_public_behind : DerivesAs visibility
+vis_public_after : DerivesAs visibility
     (leaf (ident w_pub) (at 0 3) (group Paren (at 3 4) (at 9 10) (leaf (ident w_crate) (at 4 9) end) (leaf (ident w_pub) (at 11 14) end)))
     (leaf (ident w_pub) call_site (group Paren call_site call_site (leaf (ident w_crate) call_site end) end))
     (leaf (ident w_pub) (at 11 14) end)
 unfolding left is_end lookahead_at sees take_token take_lifetime take_mark take_group before rows_for rows run parse_rule
-vis_public_behind = computed visibility _ _ _ refl
+vis_public_after = computed visibility _ _ _ refl
 
 -- `pub{crate}` prints `pub` and leaves `{crate}`
 vis_leaves_braces : DerivesAs visibility
@@ -566,20 +566,20 @@ unfolding left is_end lookahead_at sees take_token take_lifetime take_mark take_
 vis_invisible_before_restricted = computed visibility _ _ _ refl
 
 -- `pub \(\)` prints `pub` and leaves `\(\)`
-vis_invisible_behind_public : DerivesAs visibility
+vis_invisible_after_public : DerivesAs visibility
     (leaf (ident w_pub) (at 0 3) (group None (at 4 6) (at 6 8) end end))
     (leaf (ident w_pub) call_site end)
     (group None (at 4 6) (at 6 8) end end)
 unfolding left is_end lookahead_at sees take_token take_lifetime take_mark take_group before rows_for rows run parse_rule
-vis_invisible_behind_public = computed visibility _ _ _ refl
+vis_invisible_after_public = computed visibility _ _ _ refl
 
 -- `pub(crate) \(\)` prints `pub ( crate )` and leaves `\(\)`
-vis_invisible_behind_restricted : DerivesAs visibility
+vis_invisible_after_restricted : DerivesAs visibility
     (leaf (ident w_pub) (at 0 3) (group Paren (at 3 4) (at 9 10) (leaf (ident w_crate) (at 4 9) end) (group None (at 11 13) (at 13 15) end end)))
     (leaf (ident w_pub) call_site (group Paren call_site call_site (leaf (ident w_crate) call_site end) end))
     (group None (at 11 13) (at 13 15) end end)
 unfolding left is_end lookahead_at sees take_token take_lifetime take_mark take_group before rows_for rows run parse_rule
-vis_invisible_behind_restricted = computed visibility _ _ _ refl
+vis_invisible_after_restricted = computed visibility _ _ _ refl
 
 -- `pub(\(\))` prints `pub` and leaves `(\(\))`
 vis_invisible_inside : DerivesAs visibility
@@ -698,12 +698,12 @@ unfolding left is_end lookahead_at sees take_token take_lifetime take_mark take_
 restriction_leaves_word = computed restriction _ _ _ refl
 
 -- `crate in` prints `crate` and leaves `in`
-restriction_in_behind : DerivesAs restriction
+restriction_in_after : DerivesAs restriction
     (leaf (ident w_crate) (at 0 5) (leaf (ident w_in) (at 6 8) end))
     (leaf (ident w_crate) call_site end)
     (leaf (ident w_in) (at 6 8) end)
 unfolding left is_end lookahead_at sees take_token take_lifetime take_mark take_group before rows_for rows run parse_rule
-restriction_in_behind = computed restriction _ _ _ refl
+restriction_in_after = computed restriction _ _ _ refl
 
 -- no tokens: nothing is read
 restriction_nothing : NotDerived (rule restriction)

@@ -792,10 +792,10 @@ unfolding left is_end lookahead_at sees take_token take_lifetime take_mark take_
 qualified_self_arguments = not_read qualified_path _ refl
 
 -- `<a>::> b`: nothing is read
-qualified_greater_behind_colons : NotDerived (rule qualified_path)
+qualified_greater_after_colons : NotDerived (rule qualified_path)
     (punct 60 false (at 0 1) (leaf (ident (97 ∷ [])) (at 1 2) (punct 62 true (at 2 3) (punct 58 true (at 3 4) (punct 58 true (at 4 5) (punct 62 false (at 5 6) (leaf (ident (98 ∷ [])) (at 7 8) end)))))))
 unfolding left is_end lookahead_at sees take_token take_lifetime take_mark take_group before rows_for rows run parse_rule
-qualified_greater_behind_colons = not_read qualified_path _ refl
+qualified_greater_after_colons = not_read qualified_path _ refl
 
 -- `<()::>::a`: nothing is read
 qualified_type_ends_with_colons : NotDerived (rule qualified_path)
@@ -846,10 +846,10 @@ unfolding left is_end lookahead_at sees take_token take_lifetime take_mark take_
 qualified_greater_first = not_read qualified_path _ refl
 
 -- `<a><::b`: nothing is read
-qualified_less_behind_greater : NotDerived (rule qualified_path)
+qualified_less_after_greater : NotDerived (rule qualified_path)
     (punct 60 false (at 0 1) (leaf (ident (97 ∷ [])) (at 1 2) (punct 62 true (at 2 3) (punct 60 true (at 3 4) (punct 58 true (at 4 5) (punct 58 false (at 5 6) (leaf (ident (98 ∷ [])) (at 6 7) end)))))))
 unfolding left is_end lookahead_at sees take_token take_lifetime take_mark take_group before rows_for rows run parse_rule
-qualified_less_behind_greater = not_read qualified_path _ refl
+qualified_less_after_greater = not_read qualified_path _ refl
 
 -- `<> a>::b`: nothing is read
 qualified_greater_before_type : NotDerived (rule qualified_path)
@@ -896,10 +896,10 @@ unfolding left is_end lookahead_at sees take_token take_lifetime take_mark take_
 qualified_colons_before_type = not_read qualified_path _ refl
 
 -- `<a>::as b c`: nothing is read
-qualified_as_behind_colons : NotDerived (rule qualified_path)
+qualified_as_after_colons : NotDerived (rule qualified_path)
     (punct 60 false (at 0 1) (leaf (ident (97 ∷ [])) (at 1 2) (punct 62 true (at 2 3) (punct 58 true (at 3 4) (punct 58 false (at 4 5) (leaf (ident w_as) (at 5 7) (leaf (ident (98 ∷ [])) (at 8 9) (leaf (ident (99 ∷ [])) (at 10 11) end))))))))
 unfolding left is_end lookahead_at sees take_token take_lifetime take_mark take_group before rows_for rows run parse_rule
-qualified_as_behind_colons = not_read qualified_path _ refl
+qualified_as_after_colons = not_read qualified_path _ refl
 
 -- `<a, b>::c`: nothing is read
 qualified_two_types_comma : NotDerived (rule qualified_path)
@@ -908,10 +908,10 @@ unfolding left is_end lookahead_at sees take_token take_lifetime take_mark take_
 qualified_two_types_comma = not_read qualified_path _ refl
 
 -- `<a as b as>::c`: nothing is read
-qualified_as_behind_path : NotDerived (rule qualified_path)
+qualified_as_after_path : NotDerived (rule qualified_path)
     (punct 60 false (at 0 1) (leaf (ident (97 ∷ [])) (at 1 2) (leaf (ident w_as) (at 3 5) (leaf (ident (98 ∷ [])) (at 6 7) (leaf (ident w_as) (at 8 10) (punct 62 true (at 10 11) (punct 58 true (at 11 12) (punct 58 false (at 12 13) (leaf (ident (99 ∷ [])) (at 13 14) end)))))))))
 unfolding left is_end lookahead_at sees take_token take_lifetime take_mark take_group before rows_for rows run parse_rule
-qualified_as_behind_path = not_read qualified_path _ refl
+qualified_as_after_path = not_read qualified_path _ refl
 
 -- `<a as b as c>::d`: nothing is read
 qualified_as_twice : NotDerived (rule qualified_path)
@@ -920,10 +920,10 @@ unfolding left is_end lookahead_at sees take_token take_lifetime take_mark take_
 qualified_as_twice = not_read qualified_path _ refl
 
 -- `<<a>::b>::<c`: nothing is read
-qualified_less_behind_colons : NotDerived (rule qualified_path)
+qualified_less_after_colons : NotDerived (rule qualified_path)
     (punct 60 true (at 0 1) (punct 60 false (at 1 2) (leaf (ident (97 ∷ [])) (at 2 3) (punct 62 true (at 3 4) (punct 58 true (at 4 5) (punct 58 false (at 5 6) (leaf (ident (98 ∷ [])) (at 6 7) (punct 62 true (at 7 8) (punct 58 true (at 8 9) (punct 58 true (at 9 10) (punct 60 false (at 10 11) (leaf (ident (99 ∷ [])) (at 11 12) end))))))))))))
 unfolding left is_end lookahead_at sees take_token take_lifetime take_mark take_group before rows_for rows run parse_rule
-qualified_less_behind_colons = not_read qualified_path _ refl
+qualified_less_after_colons = not_read qualified_path _ refl
 
 -- `<a>.b`: nothing is read
 qualified_dot : NotDerived (rule qualified_path)
@@ -1026,12 +1026,12 @@ unfolding left is_end lookahead_at sees take_token take_lifetime take_mark take_
 path_type_leaves_qualified = computed path_as_type _ _ _ refl
 
 -- `<a>::self<b>::c` prints `< a > :: self` and leaves `<b>::c`
-path_type_self_behind : DerivesAs path_as_type
+path_type_self_after : DerivesAs path_as_type
     (punct 60 false (at 0 1) (leaf (ident (97 ∷ [])) (at 1 2) (punct 62 true (at 2 3) (punct 58 true (at 3 4) (punct 58 false (at 4 5) (leaf (ident w_self) (at 5 9) (punct 60 false (at 9 10) (leaf (ident (98 ∷ [])) (at 10 11) (punct 62 true (at 11 12) (punct 58 true (at 12 13) (punct 58 false (at 13 14) (leaf (ident (99 ∷ [])) (at 14 15) end))))))))))))
     (punct 60 false call_site (leaf (ident (97 ∷ [])) call_site (punct 62 false call_site (punct 58 true call_site (punct 58 false call_site (leaf (ident w_self) call_site end))))))
     (punct 60 false (at 9 10) (leaf (ident (98 ∷ [])) (at 10 11) (punct 62 true (at 11 12) (punct 58 true (at 12 13) (punct 58 false (at 13 14) (leaf (ident (99 ∷ [])) (at 14 15) end))))))
 unfolding left is_end lookahead_at sees take_token take_lifetime take_mark take_group before rows_for rows run parse_rule
-path_type_self_behind = computed path_as_type _ _ _ refl
+path_type_self_after = computed path_as_type _ _ _ refl
 
 -- `<a>::b c` prints `< a > :: b` and leaves `c`
 path_type_qualified_leaves : DerivesAs path_as_type
@@ -1396,10 +1396,10 @@ unfolding left is_end lookahead_at sees take_token take_lifetime take_mark take_
 type_array_two_semicolons = not_read type _ refl
 
 -- `[a; 1;]`: nothing is read
-type_array_semicolon_behind : NotDerived (rule type)
+type_array_semicolon_after : NotDerived (rule type)
     (group Bracket (at 0 1) (at 6 7) (leaf (ident (97 ∷ [])) (at 1 2) (punct 59 false (at 2 3) (leaf (literal Int (49 ∷ [])) (at 4 5) (punct 59 false (at 5 6) end)))) end)
 unfolding left is_end lookahead_at sees take_token take_lifetime take_mark take_group before rows_for rows run parse_rule
-type_array_semicolon_behind = not_read type _ refl
+type_array_semicolon_after = not_read type _ refl
 
 -- `[a; 1 1]`: nothing is read
 type_array_two_numbers : NotDerived (rule type)
@@ -1548,10 +1548,10 @@ unfolding left is_end lookahead_at sees take_token take_lifetime take_mark take_
 type_pointer_const_twice = not_read type _ refl
 
 -- `*a const b`: nothing is read
-type_pointer_const_behind : NotDerived (rule type)
+type_pointer_const_after : NotDerived (rule type)
     (punct 42 false (at 0 1) (leaf (ident (97 ∷ [])) (at 1 2) (leaf (ident w_const) (at 3 8) (leaf (ident (98 ∷ [])) (at 9 10) end))))
 unfolding left is_end lookahead_at sees take_token take_lifetime take_mark take_group before rows_for rows run parse_rule
-type_pointer_const_behind = not_read type _ refl
+type_pointer_const_after = not_read type _ refl
 
 -- `A, B,` prints `A , B ,`
 types_two : DerivesAs types

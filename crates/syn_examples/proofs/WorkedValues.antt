@@ -27,8 +27,8 @@ abbrev path_of : ℕ → ℕ → Syntax
 path_of c n = new Path (Node (Right (Node (Both (Right Nothing) (Node (Both (Shaped untagged (Both (Token (ident (c ∷ [])) (at n (n + 1))) (Shaped untagged Nothing))) (Right Nothing)))))))
 
 -- an operator and its right operand
-abbrev behind : ℕ → ℕ → Syntax → Syntax
-behind c n s = Both (kept c n) (Node s)
+abbrev following : ℕ → ℕ → Syntax → Syntax
+following c n s = Both (kept c n) (Node s)
 
 -- the rule reads an expression of this variant without attributes
 abbrev IsOf : Rule → Variant → Stream → Type 0
@@ -36,19 +36,19 @@ IsOf k v ts = (s : Syntax) × (parse_rule k ts ≡ Some (Node (new v s), end))
 
 -- `a*b*c` is a product of a product and `c`
 left_nested : parse_rule product (letter 97 0 (char 42 1 (letter 98 2 (char 42 3 (letter 99 4 end)))))
-    ≡ Some (Node (new Binary (Both (new Binary (Both (path_of 97 0) (behind 42 1 (path_of 98 2)))) (behind 42 3 (path_of 99 4)))), end)
+    ≡ Some (Node (new Binary (Both (new Binary (Both (path_of 97 0) (following 42 1 (path_of 98 2)))) (following 42 3 (path_of 99 4)))), end)
 unfolding left is_end lookahead_at sees take_token take_lifetime take_mark take_group before rows_for rows run parse_rule
 left_nested = refl
 
 -- `a+b*c` is a sum of `a` and a product
 tighter_first : parse_rule whole_expression (letter 97 0 (char 43 1 (letter 98 2 (char 42 3 (letter 99 4 end)))))
-    ≡ Some (Node (new Binary (Both (path_of 97 0) (behind 43 1 (new Binary (Both (path_of 98 2) (behind 42 3 (path_of 99 4))))))), end)
+    ≡ Some (Node (new Binary (Both (path_of 97 0) (following 43 1 (new Binary (Both (path_of 98 2) (following 42 3 (path_of 99 4))))))), end)
 unfolding left is_end lookahead_at sees take_token take_lifetime take_mark take_group before rows_for rows run parse_rule
 tighter_first = refl
 
 -- `a=b=c` assigns an assignment
 from_the_right : parse_rule whole_expression (letter 97 0 (char 61 1 (letter 98 2 (char 61 3 (letter 99 4 end)))))
-    ≡ Some (Node (new Assign (Both (path_of 97 0) (behind 61 1 (new Assign (Both (path_of 98 2) (behind 61 3 (path_of 99 4))))))), end)
+    ≡ Some (Node (new Assign (Both (path_of 97 0) (following 61 1 (new Assign (Both (path_of 98 2) (following 61 3 (path_of 99 4))))))), end)
 unfolding left is_end lookahead_at sees take_token take_lifetime take_mark take_group before rows_for rows run parse_rule
 from_the_right = refl
 
@@ -103,9 +103,9 @@ Said v t ts =
     × (parse_rule statements ts ≡ Some (Node (Right (listing (Shaped said (Both (new v e) t)) no_statements)), end))
 
 -- `{}.0;`: what goes on a block belongs to it
-block_goes_on : Said Field (Left (kept 59 4)) (group Brace (at 0 1) (at 1 2) end (char 46 2 (leaf (literal Int (48 ∷ [])) (at 3 4) (char 59 4 end))))
+block_continues : Said Field (Left (kept 59 4)) (group Brace (at 0 1) (at 1 2) end (char 46 2 (leaf (literal Int (48 ∷ [])) (at 3 4) (char 59 4 end))))
 unfolding left is_end lookahead_at sees take_token take_lifetime take_mark take_group before rows_for rows run parse_rule
-block_goes_on = (_, refl, refl)
+block_continues = (_, refl, refl)
 
 -- `{}`
 block_alone : Said Block (Right Nothing) (group Brace (at 0 1) (at 1 2) end end)
@@ -175,11 +175,11 @@ unfolding left is_end lookahead_at sees take_token take_lifetime take_mark take_
 two_parameters = (_, _, refl, refl, refl)
 
 -- `self,a:...,` are one and a variadic one
-variadic_behind : (x : Syntax) × (a : Syntax) × (p : Syntax) × (v : Syntax) × (parse_rule argument (own_self end) ≡ Some (x, end))
+variadic_after : (x : Syntax) × (a : Syntax) × (p : Syntax) × (v : Syntax) × (parse_rule argument (own_self end) ≡ Some (x, end))
     × (parse_rule inputs (own_self (char 44 4 (letter 97 5 (char 58 6 (punct 46 true (at 7 8) (punct 46 true (at 8 9) (char 46 9 (char 44 10 end))))))))
     ≡ Some (Node (Shaped parameters (Both (Node (Right (Both x (Left (Both (kept 44 4) (Node (Left Nothing))))))) (Left (Both a (Both (Left (Both p (kept 58 6))) v))))), end))
 unfolding left is_end lookahead_at sees take_token take_lifetime take_mark take_group before first_span rows_for rows run parse_rule
-variadic_behind = (_, _, _, _, refl, refl)
+variadic_after = (_, _, _, _, refl, refl)
 
 -- `a<b>` alone is a parameter with `_ :` before it
 nameless : (x : Syntax) × (parse_rule argument (letter 97 0 (char 60 1 (letter 98 2 (char 62 3 end)))) ≡ Some (x, end))

@@ -9,7 +9,7 @@ use Rattle.std.specs.Global.{Global}
 use Rattle.std.proofs.Common.{Box}
 use Rattle.syn_tokens.specs.Kinds.{Else, else_syntax}
 use Rattle.syn_tokens.specs.Leaves.{maybe}
-use Rattle.syn_lower.proofs.Compared.{told}
+use Rattle.syn_lower.proofs.Compared.{reported}
 use Rattle.syn_lower.specs.Sizes.{tree_size}
 use Rattle.syn_expr.specs.Expressions.{after_else, block_after_else, in_braces, is_block, is_if, syntax_of_Expr}
 use Rattle.syn_expr.specs.Statements.{diverging}
@@ -140,39 +140,39 @@ block_known (Expr-m.While e) = refl
 
 same_block_after : (e f : Expr-m.the_data) → same_syntax (block_after_else (syntax_of_Expr e)) (block_after_else (syntax_of_Expr f)) ≡ same_syntax (syntax_of_Expr e) (syntax_of_Expr f)
 same_block_after e f =
-    told block_after_else out_of_block _ _ (syntax_of_Expr e) (syntax_of_Expr f) (plain_block e) (plain_block f)
+    reported block_after_else out_of_block _ _ (syntax_of_Expr e) (syntax_of_Expr f) (plain_block e) (plain_block f)
     (ap out_of_block (plain_block e) ∙ block_known e) (ap out_of_block (plain_block f) ∙ block_known f)
 
-plain_behind : (e : Expr-m.the_data) → plain_syntax (after_else (syntax_of_Expr e)) ≡ after_else (plain_syntax (syntax_of_Expr e))
-plain_behind (Expr-m.Array e) = refl
-plain_behind (Expr-m.Assign e) = refl
-plain_behind (Expr-m.Binary e) = refl
-plain_behind (Expr-m.Block e) = refl
-plain_behind (Expr-m.Break e) = refl
-plain_behind (Expr-m.Call e) = refl
-plain_behind (Expr-m.Cast e) = refl
-plain_behind (Expr-m.Continue e) = refl
-plain_behind (Expr-m.Field e) = refl
-plain_behind (Expr-m.ForLoop e) = refl
-plain_behind (Expr-m.Group e) = refl
-plain_behind (Expr-m.If e) = refl
-plain_behind (Expr-m.Index e) = refl
-plain_behind (Expr-m.Lit e) = refl
-plain_behind (Expr-m.Loop e) = refl
-plain_behind (Expr-m.Macro e) = refl
-plain_behind (Expr-m.MethodCall e) = refl
-plain_behind (Expr-m.Paren e) = refl
-plain_behind (Expr-m.Path e) = refl
-plain_behind (Expr-m.Reference e) = refl
-plain_behind (Expr-m.Repeat e) = refl
-plain_behind (Expr-m.Return e) = refl
-plain_behind (Expr-m.Struct e) = refl
-plain_behind (Expr-m.Try e) = refl
-plain_behind (Expr-m.Tuple e) = refl
-plain_behind (Expr-m.Unary e) = refl
-plain_behind (Expr-m.Unsafe e) = refl
-plain_behind (Expr-m.Verbatim e) = refl
-plain_behind (Expr-m.While e) = refl
+plain_after : (e : Expr-m.the_data) → plain_syntax (after_else (syntax_of_Expr e)) ≡ after_else (plain_syntax (syntax_of_Expr e))
+plain_after (Expr-m.Array e) = refl
+plain_after (Expr-m.Assign e) = refl
+plain_after (Expr-m.Binary e) = refl
+plain_after (Expr-m.Block e) = refl
+plain_after (Expr-m.Break e) = refl
+plain_after (Expr-m.Call e) = refl
+plain_after (Expr-m.Cast e) = refl
+plain_after (Expr-m.Continue e) = refl
+plain_after (Expr-m.Field e) = refl
+plain_after (Expr-m.ForLoop e) = refl
+plain_after (Expr-m.Group e) = refl
+plain_after (Expr-m.If e) = refl
+plain_after (Expr-m.Index e) = refl
+plain_after (Expr-m.Lit e) = refl
+plain_after (Expr-m.Loop e) = refl
+plain_after (Expr-m.Macro e) = refl
+plain_after (Expr-m.MethodCall e) = refl
+plain_after (Expr-m.Paren e) = refl
+plain_after (Expr-m.Path e) = refl
+plain_after (Expr-m.Reference e) = refl
+plain_after (Expr-m.Repeat e) = refl
+plain_after (Expr-m.Return e) = refl
+plain_after (Expr-m.Struct e) = refl
+plain_after (Expr-m.Try e) = refl
+plain_after (Expr-m.Tuple e) = refl
+plain_after (Expr-m.Unary e) = refl
+plain_after (Expr-m.Unsafe e) = refl
+plain_after (Expr-m.Verbatim e) = refl
+plain_after (Expr-m.While e) = refl
 
 out_of_else : Syntax → Syntax
 out_of_else (Right (Node s)) = s
@@ -213,8 +213,8 @@ after_known (Expr-m.While e) = refl
 
 same_after : (e f : Expr-m.the_data) → same_syntax (after_else (syntax_of_Expr e)) (after_else (syntax_of_Expr f)) ≡ same_syntax (syntax_of_Expr e) (syntax_of_Expr f)
 same_after e f =
-    told after_else out_of_else _ _ (syntax_of_Expr e) (syntax_of_Expr f) (plain_behind e) (plain_behind f)
-    (ap out_of_else (plain_behind e) ∙ after_known e) (ap out_of_else (plain_behind f) ∙ after_known f)
+    reported after_else out_of_else _ _ (syntax_of_Expr e) (syntax_of_Expr f) (plain_after e) (plain_after f)
+    (ap out_of_else (plain_after e) ∙ after_known e) (ap out_of_else (plain_after f) ∙ after_known f)
 
 -- two branches are the same where the expressions after `else` are, however these are printed
 abbrev else_and : Branch → Syntax

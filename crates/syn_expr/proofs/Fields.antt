@@ -11,23 +11,23 @@ use Rattle.syn_tokens.specs.Leaves.{maybe, syntax_of_ident}
 use Rattle.syn_lower.specs.Members.{syntax_of_Member}
 use Rattle.syn_lower.specs.Sizes.{tree_size}
 use Rattle.syn_lower.specs.declared.member.Member.TheVariants as Member-m
-use Rattle.syn_lower.proofs.Compared.{told}
+use Rattle.syn_lower.proofs.Compared.{reported}
 use Rattle.syn_expr_parse.specs.StructLiterals.{hidden, member_and_value, named_path}
 use Rattle.syn_expr.specs.Expressions.{syntax_of_Expr}
-use Rattle.syn_expr.specs.Fields.{behind_member, is_path, size_unless_path}
+use Rattle.syn_expr.specs.Fields.{following_member, is_path, size_unless_path}
 use Rattle.syn_expr.specs.declared.expr.Expr.TheVariants as Expr-m
 
 abbrev sign : Option Colon → Syntax
 sign c = maybe colon_syntax c
 
 -- PRINTS
-pub print_field : (m : Member-m.the_data) (c : Option Colon) (e : Syntax) → print (member_and_value (syntax_of_Member m) (sign c) e) ≡ print (syntax_of_Member m) ⧺ print (behind_member (sign c) e)
+pub print_field : (m : Member-m.the_data) (c : Option Colon) (e : Syntax) → print (member_and_value (syntax_of_Member m) (sign c) e) ≡ print (syntax_of_Member m) ⧺ print (following_member (sign c) e)
 print_field (Member-m.Named i) (Some c) e = refl
 print_field (Member-m.Named i) None e = refl
 print_field (Member-m.Unnamed i) (Some c) e = refl
 print_field (Member-m.Unnamed i) None e = refl
 
-pub shown_smaller : (m : Member-m.the_data) (c : Option Colon) (e : Syntax) → tree_size (behind_member (sign c) e) ≤ tree_size (member_and_value (syntax_of_Member m) (sign c) e)
+pub shown_smaller : (m : Member-m.the_data) (c : Option Colon) (e : Syntax) → tree_size (following_member (sign c) e) ≤ tree_size (member_and_value (syntax_of_Member m) (sign c) e)
 shown_smaller (Member-m.Named i) (Some c) e = omega arith
 shown_smaller (Member-m.Named i) None e = omega arith
 shown_smaller (Member-m.Unnamed i) (Some c) e = omega arith
@@ -129,9 +129,9 @@ plain_field (Member-m.Named i) None e = let n : Syntax = syntax_of_ident i in ap
 plain_field (Member-m.Unnamed i) (Some c) e = refl
 plain_field (Member-m.Unnamed i) None e = refl
 
-lone_told : (n e : Syntax) → field_parts (Right (Both (plain_syntax n) (Right (Unshown (plain_syntax (hidden n e)))))) ≡ Both (Right (plain_syntax n)) (Both (Right Nothing) (plain_syntax e))
+lone_known : (n e : Syntax) → field_parts (Right (Both (plain_syntax n) (Right (Unshown (plain_syntax (hidden n e)))))) ≡ Both (Right (plain_syntax n)) (Both (Right Nothing) (plain_syntax e))
 unfolding field_parts
-lone_told n e = go (same_syntax (named_path n) e) refl
+lone_known n e = go (same_syntax (named_path n) e) refl
   where
     go : (b : Bool) → same_syntax (named_path n) e ≡ b → field_parts (Right (Both (plain_syntax n) (Right (Unshown (plain_syntax (pick b Nothing (Node e))))))) ≡ Both (Right (plain_syntax n)) (Both (Right Nothing) (plain_syntax e))
     go true h = ap (λ s. Both (Right (plain_syntax n)) (Both (Right Nothing) s)) ((same_syntax_plain (named_path n) e).0 h)
@@ -140,11 +140,11 @@ lone_told n e = go (same_syntax (named_path n) e) refl
 field_known : (m : Member-m.the_data) (c : Option Colon) (e : Syntax) → field_parts (plain_syntax (member_and_value (syntax_of_Member m) (sign c) e)) ≡ plain_syntax (Both (syntax_of_Member m) (Both (sign c) e))
 unfolding field_parts
 field_known (Member-m.Named i) (Some c) e = refl
-field_known (Member-m.Named i) None e = lone_told (syntax_of_ident i) e
+field_known (Member-m.Named i) None e = lone_known (syntax_of_ident i) e
 field_known (Member-m.Unnamed i) (Some c) e = refl
 field_known (Member-m.Unnamed i) None e = refl
 
 pub same_field : (m n : Member-m.the_data) (c d : Option Colon) (e f : Syntax) → same_syntax (member_and_value (syntax_of_Member m) (sign c) e) (member_and_value (syntax_of_Member n) (sign d) f)
     ≡ and (same_syntax (syntax_of_Member m) (syntax_of_Member n)) (and (same_syntax (sign c) (sign d)) (same_syntax e f))
 same_field m n c d e f =
-    told field_form field_parts _ _ (Both (syntax_of_Member m) (Both (sign c) e)) (Both (syntax_of_Member n) (Both (sign d) f)) (plain_field m c e) (plain_field n d f) (field_known m c e) (field_known n d f)
+    reported field_form field_parts _ _ (Both (syntax_of_Member m) (Both (sign c) e)) (Both (syntax_of_Member n) (Both (sign d) f)) (plain_field m c e) (plain_field n d f) (field_known m c e) (field_known n d f)

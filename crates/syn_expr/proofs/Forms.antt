@@ -14,7 +14,7 @@ use Rattle.syn_lower.specs.Sizes.{tree_size}
 use Rattle.syn_lower.specs.declared.lit.Lit.TheVariants as Lit-m
 use Rattle.syn_lower.specs.declared.lit.LitBool.{LitBool}
 use Rattle.syn_lower.specs.declared.member.Member.TheVariants as Member-m
-use Rattle.syn_lower.proofs.Compared.{told}
+use Rattle.syn_lower.proofs.Compared.{reported}
 use Rattle.syn_expr.specs.Expressions.{field_member, method_arguments, token_of}
 
 -- THE MEMBER OF A STRUCT
@@ -179,11 +179,11 @@ plain_arguments None s = refl
 plain_arguments (Some (Both (Left colons) generic)) s = refl
 plain_arguments (Some generic) s = refl
 
-arguments_told : (g : Option Syntax) (s : Syntax) → arguments_parts (plain_syntax (method_arguments g s)) ≡ plain_syntax (Both (maybe itself g) s)
+arguments_known : (g : Option Syntax) (s : Syntax) → arguments_parts (plain_syntax (method_arguments g s)) ≡ plain_syntax (Both (maybe itself g) s)
 unfolding arguments_parts
-arguments_told None s = refl
-arguments_told (Some (Both (Left colons) generic)) s = refl
-arguments_told (Some generic) s = refl
+arguments_known None s = refl
+arguments_known (Some (Both (Left colons) generic)) s = refl
+arguments_known (Some generic) s = refl
 
 pub same_arguments : (g h : Option Syntax) (s t : Syntax) → same_syntax (method_arguments g s) (method_arguments h t) ≡ and (same_syntax (maybe itself g) (maybe itself h)) (same_syntax s t)
-same_arguments g h s t = told arguments_form arguments_parts _ _ (Both (maybe itself g) s) (Both (maybe itself h) t) (plain_arguments g s) (plain_arguments h t) (arguments_told g s) (arguments_told h t)
+same_arguments g h s t = reported arguments_form arguments_parts _ _ (Both (maybe itself g) s) (Both (maybe itself h) t) (plain_arguments g s) (plain_arguments h t) (arguments_known g s) (arguments_known h t)

@@ -76,9 +76,9 @@ unless_memory refusal (Err e) P Q f h = h
 abbrev all : List Attribute → Syntax
 all l = in_order syntax_of_Attribute l
 
-none_behind : (s t : Syntax) (l : List Attribute) → is_none (shown_before is_outer (Both s t) (all l)) ≡ false
-none_behind s t [] = refl
-none_behind s t (a ∷ l) = go (is_outer (syntax_of_Attribute a)) (shown_before is_outer (Both s t) (all l)) (none_behind s t l)
+none_following : (s t : Syntax) (l : List Attribute) → is_none (shown_before is_outer (Both s t) (all l)) ≡ false
+none_following s t [] = refl
+none_following s t (a ∷ l) = go (is_outer (syntax_of_Attribute a)) (shown_before is_outer (Both s t) (all l)) (none_following s t l)
   where
     go : (b : Bool) (z : Syntax) → is_none z ≡ false → is_none (pick b (Node (Left (Both (syntax_of_Attribute a) z))) z) ≡ false
     go true z h = refl
@@ -92,9 +92,9 @@ attributes_are_none (x ∷ l) = go (is_outer (syntax_of_Attribute x)) ∙ sym (e
     s : Syntax
     s = syntax_of_Attribute x
 
-    behind : Bool → Syntax
-    behind b = shown_before is_outer (pick (and b (every is_outer (all l))) Nothing (Both s (all l))) (all l)
+    following : Bool → Syntax
+    following b = shown_before is_outer (pick (and b (every is_outer (all l))) Nothing (Both s (all l))) (all l)
 
-    go : (b : Bool) → is_none (pick b (Node (Left (Both s (behind b)))) (behind b)) ≡ false
+    go : (b : Bool) → is_none (pick b (Node (Left (Both s (following b)))) (following b)) ≡ false
     go true = refl
-    go false = none_behind s (all l) l
+    go false = none_following s (all l) l

@@ -5,9 +5,9 @@ use Rattle.syn_grammar.specs.Grammar.{Syntax, Nothing, Both, Left, Node, Shaped}
 use Rattle.syn_lower.specs.Sizes.{tree_size}
 
 -- a colon and a value, or nothing
-abbrev pub behind_member : Syntax → Syntax → Syntax
-behind_member (Left sign) value = Both sign (Node value)
-behind_member sign value = Nothing
+abbrev pub following_member : Syntax → Syntax → Syntax
+following_member (Left sign) value = Both sign (Node value)
+following_member sign value = Nothing
 
 abbrev pub is_path : Syntax → Bool
 is_path (Shaped (expr Path) s) = true

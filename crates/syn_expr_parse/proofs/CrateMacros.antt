@@ -11,14 +11,14 @@ use Rattle.syn_grammar.specs.Take.{Out, Parser, sees}
 use Rattle.syn_grammar.specs.Values.{alone, new}
 use Rattle.syn_grammar.specs.Run.{wrap, and_then, branch, parse_rule, parse_form}
 use Rattle.syn_grammar.specs.Plan.{follow, by_test, run_plan}
-use Rattle.syn_grammar.specs.ItemPlan.{behind_visibility, item_behind, item_of, item_plan, macro_plan, other_plan, parts}
+use Rattle.syn_grammar.specs.ItemPlan.{after_visibility, item_after, item_of, item_plan, macro_plan, other_plan, parts}
 use Rattle.syn_grammar.specs.StatementPlans.{crate_item, crate_macro_plan, crate_statement}
 use Rattle.syn_grammar.proofs.Each.{macro_end_is, macro_invocation_is, statement_end_is}
 use Rattle.syn_grammar.proofs.ItemPlan.{item_plan_is}
 use Rattle.syn_grammar.proofs.Known.{excludes}
 use Rattle.syn_grammar.proofs.PlanSteps.{went, took, happened, seen_apart}
 use Rattle.syn_grammar.proofs.StatementPlans.{crate_macro_plan_is}
-use Rattle.syn_expr_parse.specs.StatementForms.{behind_block, crate_macro_statement, goes_on, item_statement, then_by, unless_postfix}
+use Rattle.syn_expr_parse.specs.StatementForms.{following_block, crate_macro_statement, proceeds, item_statement, then_by, unless_postfix}
 use Rattle.syn_expr_parse.proofs.StatementEnds.{block_end, made}
 use Rattle.syn_expr_parse.proofs.CratePaths.{Pieces, bang_form, crate_pieces}
 
@@ -42,7 +42,7 @@ crate_value p x b q =
 -- by what follows the braces
 module _ (a p x : Syntax) where
   abbrev as_read : Out → Out
-  as_read o = pick (goes_on (wrap (in_braces p x) o)) (wrap (Shaped an_item) (wrap (item_value a p x) o)) (then_by (wrap (new Macro) (wrap (in_braces p x) o)) (unless_postfix false a))
+  as_read o = pick (proceeds (wrap (in_braces p x) o)) (wrap (Shaped an_item) (wrap (item_value a p x) o)) (then_by (wrap (new Macro) (wrap (in_braces p x) o)) (unless_postfix false a))
 
   ended : (s : Syntax) (o : Out) → made a (follow (λ z t. Some (crate_statement s z, t)) (wrap Node o)) ≡ wrap (alone true a (new Macro (Node s))) o
   ended s None = refl
@@ -56,7 +56,7 @@ module _ (a p x : Syntax) where
       s = parts (p ∷ x ∷ Right (Right b.0) ∷ [])
 
       go : (v : Bool) → made a (by_test v (Some (crate_item (parts (p ∷ x ∷ Right Nothing ∷ Node (Right (Right b.0)) ∷ [])), b.1)) (follow (λ z t. Some (crate_statement s z, t)) (parse_rule statement_end b.1)))
-          ≡ pick v (Some (Shaped an_item (item_value a p x b.0), b.1)) (pick v None (behind_block false true a (new Macro (Node s)) b.1))
+          ≡ pick v (Some (Shaped an_item (item_value a p x b.0), b.1)) (pick v None (following_block false true a (new Macro (Node s)) b.1))
       go true = refl
       go false = ap (λ o. made a (follow (λ z t. Some (crate_statement s z, t)) o)) (statement_end_is b.1) ∙ ended s (parse_form (table statement_end) b.1) ∙ block_end a true (new Macro (Node s)) b.1
 
@@ -66,7 +66,7 @@ module _ (ts m : Stream) (a : Syntax) (outer : parse_rule attributes ts ≡ Some
 
   -- an item that begins so is a macro: no look before it in the plan holds
   as_item : parse_rule item ts ≡ run_plan (macro_plan a) kept_item ts m
-  unfolding item_plan item_behind behind_visibility other_plan
+  unfolding item_plan item_after after_visibility other_plan
   as_item =
       item_plan_is ts
       ∙ happened kept_item ts
@@ -121,11 +121,11 @@ module _ (ts m : Stream) (a : Syntax) (outer : parse_rule attributes ts ≡ Some
         crate_macro_plan_is m
         ∙ happened kept_item m (went false ∷ took p n ∷ took x r ∷ went true ∷ []) crate_macro_plan m (off _ refl, (path, (bang, (brace, tt))))
 
-    by_pieces : made a (parse_rule crate_macro m) ≡ pick (goes_on (parse_rule macro_invocation m)) (item_statement ts) (crate_macro_statement false a m)
+    by_pieces : made a (parse_rule crate_macro m) ≡ pick (proceeds (parse_rule macro_invocation m)) (item_statement ts) (crate_macro_statement false a m)
     by_pieces =
         ap (made a) crate_is ∙ read_so a p x braces
-        ∙ ap₂ (λ o i. pick (goes_on o) (wrap (Shaped an_item) i) (then_by (wrap (new Macro) o) (unless_postfix false a))) (sym invoked) (sym item_is)
+        ∙ ap₂ (λ o i. pick (proceeds o) (wrap (Shaped an_item) i) (then_by (wrap (new Macro) o) (unless_postfix false a))) (sym invoked) (sym item_is)
 
   -- what continues an expression after it makes it an item
-  pub crate_alone : made a (parse_rule crate_macro m) ≡ pick (goes_on (parse_rule macro_invocation m)) (item_statement ts) (crate_macro_statement false a m)
-  crate_alone = let w = crate_pieces m crate in by_pieces w.path w.bang w.behind w.rest w.path_read w.bang_read w.brace
+  pub crate_alone : made a (parse_rule crate_macro m) ≡ pick (proceeds (parse_rule macro_invocation m)) (item_statement ts) (crate_macro_statement false a m)
+  crate_alone = let w = crate_pieces m crate in by_pieces w.path w.bang w.following w.rest w.path_read w.bang_read w.brace

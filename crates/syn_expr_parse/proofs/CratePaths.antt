@@ -23,10 +23,10 @@ bang_form = when at_bang then asking_punctuation exclamation else never
 pub record Pieces (m : Stream) : Type 0 where
   pub path : Syntax
   pub bang : Syntax
-  pub behind : Stream
+  pub following : Stream
   pub rest : Stream
-  pub path_read : parse_rule module_path m ≡ Some (path, behind)
-  pub bang_read : parse_form bang_form behind ≡ Some (bang, rest)
+  pub path_read : parse_rule module_path m ≡ Some (path, following)
+  pub bang_read : parse_form bang_form following ≡ Some (bang, rest)
   pub brace : sees at_brace rest ≡ true
 
 -- THE PATH
@@ -78,23 +78,23 @@ path_taken x sp m h c =
 
 -- ITS `!`
 
-abbrev Behind : Stream → Type 0
-Behind r = (x : Syntax) × (q : Stream) × (parse_form bang_form r ≡ Some (x, q)) × (sees at_brace q ≡ true)
+abbrev Following : Stream → Type 0
+Following r = (x : Syntax) × (q : Stream) × (parse_form bang_form r ≡ Some (x, q)) × (sees at_brace q ≡ true)
 
-bang_taken : (j : Bool) (sp : Span) (m : Stream) → sees at_bang (punct 33 j sp m) ≡ true → sees at_brace (past (punct 33 j sp m)) ≡ true → Behind (punct 33 j sp m)
+bang_taken : (j : Bool) (sp : Span) (m : Stream) → sees at_bang (punct 33 j sp m) ≡ true → sees at_brace (past (punct 33 j sp m)) ≡ true → Following (punct 33 j sp m)
 unfolding take_mark
 bang_taken false sp m b h = (Left (Mark ((33, sp) ∷ [])), m, ap (λ v. branch v (take_mark exclamation (punct 33 false sp m)) None) b, h)
 bang_taken true sp m b h = (Left (Mark ((33, sp) ∷ [])), m, ap (λ v. branch v (take_mark exclamation (punct 33 true sp m)) None) b, h)
 
-bang_at : (r : Stream) → sees at_bang r ≡ true → taken (take_mark exclamation r) ≡ true → sees at_brace (past r) ≡ true → Behind r
+bang_at : (r : Stream) → sees at_bang r ≡ true → taken (take_mark exclamation r) ≡ true → sees at_brace (past r) ≡ true → Following r
 unfolding take_mark
 bang_at end b t h = absurd (true≢false (sym t))
 bang_at (leaf x sp m) b t h = absurd (true≢false (sym t))
 bang_at (group d o c i m) b t h = absurd (true≢false (sym t))
 bang_at (punct d j sp m) b t h = go (nat_eq d 33) refl t
   where
-    go : (v : Bool) → nat_eq d 33 ≡ v → taken (take_mark exclamation (punct d j sp m)) ≡ true → Behind (punct d j sp m)
-    go true e k = subst (λ z. sees at_bang (punct z j sp m) ≡ true → sees at_brace (past (punct z j sp m)) ≡ true → Behind (punct z j sp m)) (sym (eqb-true d 33 e)) (bang_taken j sp m) b h
+    go : (v : Bool) → nat_eq d 33 ≡ v → taken (take_mark exclamation (punct d j sp m)) ≡ true → Following (punct d j sp m)
+    go true e k = subst (λ z. sees at_bang (punct z j sp m) ≡ true → sees at_brace (past (punct z j sp m)) ≡ true → Following (punct z j sp m)) (sym (eqb-true d 33 e)) (bang_taken j sp m) b h
     go false e k = absurd (true≢false (sym k ∙ rw e refl))
 
 is_off : (b : Bool) → no b ≡ true → b ≡ false
@@ -108,7 +108,7 @@ by_word (punct d j sp m) w c b h = absurd (true≢false (sym (sym (sees_word w_c
 by_word (group d o k i m) w c b h = absurd (true≢false (sym (sym (sees_word w_crate (group d o k i m)) ∙ w)))
 by_word (leaf x sp m) w c b h =
     let (s, q, r, e) = bang_at m b (sym (sees_mark exclamation refl m) ∙ and_left (sees (at_mark exclamation) m) _ (sym (sees_but (at_mark exclamation) (at_mark not_equals) m) ∙ b)) h in
-    record { path = path_of x sp; bang = s; behind = m; rest = q; path_read = path_taken x sp m w c; bang_read = r; brace = e }
+    record { path = path_of x sp; bang = s; following = m; rest = q; path_read = path_taken x sp m w c; bang_read = r; brace = e }
 
 pub crate_pieces : (m : Stream) → sees at_crate_macro m ≡ true → Pieces m
 crate_pieces m h =

@@ -72,13 +72,13 @@ whole_by d k ts = go (parse_rule d ts)
     ended s x m true = refl
     ended s x m false = refl
 
-    behind : (s : Syntax) (o : Out) → wrap Node (wrap chained (wrap (Both s) (and_then o ending))) ≡ unfinished_out (wrap (onto (core s)) o)
-    behind s None = refl
-    behind s (Some p) = ended s p.0 p.1 (sees at_unfinished p.1)
+    following : (s : Syntax) (o : Out) → wrap Node (wrap chained (wrap (Both s) (and_then o ending))) ≡ unfinished_out (wrap (onto (core s)) o)
+    following s None = refl
+    following s (Some p) = ended s p.0 p.1 (sees at_unfinished p.1)
 
     go : (o : Out) → wrap Node (wrap chained (and_then o (λ ts. and_then (parse_rule k ts) ending))) ≡ whole_out k o
     go None = refl
-    go (Some p) = behind p.0 (parse_rule k p.1)
+    go (Some p) = following p.0 (parse_rule k p.1)
 
 pub whole_are : (p : Spot) (ts : Stream) → parse_rule (within p whole_expression) ts ≡ whole_out (within p assigned) (parse_rule (within p disjunction) ts)
 whole_are Spot-m.Anywhere ts = whole_expression_is ts ∙ whole_by disjunction assigned ts

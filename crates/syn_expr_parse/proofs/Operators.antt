@@ -40,10 +40,10 @@ below (suc n) f zero h e = first_true (f zero) _ e
 below (suc n) f (suc i) h e = below n (λ k. f (suc k)) i (omega (arith, h)) (second_true (f zero) _ e)
 
 -- two tests that are known to agree
-told_alike : (a b : Bool) → same_bool a b ≡ true → a ≡ b
-told_alike true b e = sym e
-told_alike false true e = absurd (true≢false (sym e))
-told_alike false false e = refl
+known_alike : (a b : Bool) → same_bool a b ≡ true → a ≡ b
+known_alike true b e = sym e
+known_alike false true e = absurd (true≢false (sym e))
+known_alike false false e = refl
 
 -- BINARY OPERATORS
 
@@ -179,7 +179,7 @@ abbrev test_BinOp : ℕ → ℕ → Bool
 test_BinOp i j = same_bool (same_text (get_or texts_of_BinOp i []) (get_or texts_of_BinOp j [])) (nat_eq i j)
 
 same_texts_BinOp : (o p : BinOp-m.the_data) → same_text (text_of_BinOp o) (text_of_BinOp p) ≡ nat_eq (number_of_BinOp o) (number_of_BinOp p)
-same_texts_BinOp o p = told_alike _ _ (below 28 (test_BinOp (number_of_BinOp o)) (number_of_BinOp p) (bounded_BinOp p) (below 28 (λ i. all_below 28 (test_BinOp i)) (number_of_BinOp o) (bounded_BinOp o) refl))
+same_texts_BinOp o p = known_alike _ _ (below 28 (test_BinOp (number_of_BinOp o)) (number_of_BinOp p) (bounded_BinOp p) (below 28 (λ i. all_below 28 (test_BinOp i)) (number_of_BinOp o) (bounded_BinOp o) refl))
 
 pub same_BinOp : (o p : BinOp-m.the_data) → placed_BinOp o → placed_BinOp p → same_syntax (syntax_of_BinOp o) (syntax_of_BinOp p) ≡ nat_eq (number_of_BinOp o) (number_of_BinOp p)
 same_BinOp o p h k = ap₂ same_syntax (is_mark_BinOp o) (is_mark_BinOp p) ∙ same_marks (text_of_BinOp o) (text_of_BinOp p) (spans_of_BinOp o) (spans_of_BinOp p) (is_placed_BinOp o h) (is_placed_BinOp p k) ∙ same_texts_BinOp o p
@@ -218,7 +218,7 @@ abbrev test_UnOp : ℕ → ℕ → Bool
 test_UnOp i j = same_bool (same_text (get_or texts_of_UnOp i []) (get_or texts_of_UnOp j [])) (nat_eq i j)
 
 same_texts_UnOp : (o p : UnOp-m.the_data) → same_text (text_of_UnOp o) (text_of_UnOp p) ≡ nat_eq (number_of_UnOp o) (number_of_UnOp p)
-same_texts_UnOp o p = told_alike _ _ (below 3 (test_UnOp (number_of_UnOp o)) (number_of_UnOp p) (bounded_UnOp p) (below 3 (λ i. all_below 3 (test_UnOp i)) (number_of_UnOp o) (bounded_UnOp o) refl))
+same_texts_UnOp o p = known_alike _ _ (below 3 (test_UnOp (number_of_UnOp o)) (number_of_UnOp p) (bounded_UnOp p) (below 3 (λ i. all_below 3 (test_UnOp i)) (number_of_UnOp o) (bounded_UnOp o) refl))
 
 pub same_UnOp : (o p : UnOp-m.the_data) → placed_UnOp o → placed_UnOp p → same_syntax (syntax_of_UnOp o) (syntax_of_UnOp p) ≡ nat_eq (number_of_UnOp o) (number_of_UnOp p)
 same_UnOp o p h k = ap₂ same_syntax (is_mark_UnOp o) (is_mark_UnOp p) ∙ same_marks (text_of_UnOp o) (text_of_UnOp p) (spans_of_UnOp o) (spans_of_UnOp p) (is_placed_UnOp o h) (is_placed_UnOp p k) ∙ same_texts_UnOp o p

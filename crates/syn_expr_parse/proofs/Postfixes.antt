@@ -56,10 +56,10 @@ rest_in (Some p) = p.1
 rest_in None = end
 
 -- if `::` is next
-abbrev behind_colons : Stream → Out
-behind_colons ts = and_then (wrap Left (take_mark colons ts)) (parse_rule generic_arguments)
+abbrev after_colons : Stream → Out
+after_colons ts = and_then (wrap Left (take_mark colons ts)) (parse_rule generic_arguments)
 
-colons_seen : (ts : Stream) → sees at_colons ts ≡ true → behind_colons ts ≡ parse_form angle_bracketed_form ts
+colons_seen : (ts : Stream) → sees at_colons ts ≡ true → after_colons ts ≡ parse_form angle_bracketed_form ts
 colons_seen ts h = ap (λ b. and_then (branch b (take_mark colons ts) (Some (Nothing, ts))) (parse_rule generic_arguments)) (sym h)
 
 pub generic_call_is : (ts : Stream) (generic : Syntax) (r : Stream) → sees at_colons ts ≡ true → parse_form angle_bracketed_form ts ≡ Some (generic, r) →

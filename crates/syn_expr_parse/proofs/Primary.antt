@@ -17,7 +17,7 @@ use Rattle.syn_expr_parse.specs.Parts.{token_of}
 use Rattle.syn_expr_parse.specs.Postfixes.{arguments_form}
 use Rattle.syn_expr_parse.specs.Spots.{Spot, within}
 use Rattle.syn_expr_parse.specs.Then.{then_by}
-use Rattle.syn_expr_parse.specs.Primary.{before_paths, behind_path, braces_form, bracketed_of, break_form, brackets_form, continue_form, group_form, constant_out, in_literal, jump_or_path, literal_form, no_literal, path_out, primary_out, return_form}
+use Rattle.syn_expr_parse.specs.Primary.{before_paths, after_path, braces_form, bracketed_of, break_form, brackets_form, continue_form, group_form, constant_out, in_literal, jump_or_path, literal_form, no_literal, path_out, primary_out, return_form}
 use Rattle.syn_expr_parse.specs.declared.parsing.nested.Spot.TheVariants as Spot-m
 
 core_branch : (b : Bool) (x y x' y' : Out) → wrap core x ≡ x' → wrap core y ≡ y' → wrap core (branch b x y) ≡ pick b x' y'
@@ -94,7 +94,7 @@ primary_by p ts path h =
     ∙ ap (λ b. pick b (wrap (new Lit) (wrap token_of (parse_form lit_form ts))) (no_literal p ts)) (literal_seen ts)
 
 -- a path, and the braces after it
-with_braces : (o : Out) → wrap core (wrap (shape chain) (and_then (wrap (new Path) o) (parse_form braces_form))) ≡ then_by o behind_path
+with_braces : (o : Out) → wrap core (wrap (shape chain) (and_then (wrap (new Path) o) (parse_form braces_form))) ≡ then_by o after_path
 with_braces None = refl
 with_braces (Some p) = go (sees at_brace p.1) (parse_form literal_form p.1)
   where

@@ -3,7 +3,7 @@ use Rattle.std.proofs.Common.{◌≡◌, ℕ, zero, suc, Bool, true, false, Some
 use Rattle.syn_grammar.specs.Words.{pound, w_true, w_false, w_if, w_unsafe, w_return, w_break, w_continue}
 use Rattle.syn_grammar.specs.Tokens.{Stream, Paren, Bracket, at_word, at_lifetime}
 use Rattle.syn_grammar.specs.Rules.{attributes, meta, bit_and, bit_ands, bit_or, bit_ors, bit_xor, bit_xors, block_like, cast, casts, compared, comparison, conjunction, conjunctions, disjunction, disjunctions, if_expression, loop_expression, operand_rest, path_as_expression, postfixes, primary, product, products, shift, shifts, sum, sums, unary, whole_expression}
-use Rattle.syn_grammar.specs.Shape.{Variant, Shape, Binary, Assign, Cast, Path, Lit, Macro, Grouped, If, Unsafe, Block, Loop, While, ForLoop, Return, Break, Continue, Unary, Reference, expr, bracketed, behind_it, operator, dotted, fields, choice, chain, leading, labelled}
+use Rattle.syn_grammar.specs.Shape.{Variant, Shape, Binary, Assign, Cast, Path, Lit, Macro, Grouped, If, Unsafe, Block, Loop, While, ForLoop, Return, Break, Continue, Unary, Reference, expr, bracketed, after_it, operator, dotted, fields, choice, chain, leading, labelled}
 use Rattle.syn_grammar.specs.Grammar.{Syntax, Nothing, Both, Left, Right, Node, Group, Unshown, Shaped, Grammar, lifetime, empty, ◌&◌, when◌then◌else◌, inside, rule}
 use Rattle.syn_grammar.specs.Forms.{asking_punctuation, punctuation}
 use Rattle.syn_grammar.specs.Words.{colon}
@@ -34,7 +34,7 @@ onto_spine a (Node l) e = onto_spine a l e
 onto_spine a (Left l) e = onto_spine a l e
 onto_spine a (Right l) e = onto_spine a l e
 onto_spine a (Both l m) e = onto_spine (onto a l) m (onto_spine a l e)
-onto_spine a (Shaped (behind_it v) p) e = under v a p e
+onto_spine a (Shaped (after_it v) p) e = under v a p e
 onto_spine a (Shaped (operator v) p) e = under v a p e
 onto_spine a (Shaped dotted p) e = under (member_variant p) a p e
 onto_spine a (Shaped fields p) e = literal_spine a p e
@@ -70,28 +70,28 @@ with_attributes_spine a s h e = refl
 abbrev attribute : Grammar
 attribute = asking_punctuation pound & inside Bracket (rule meta)
 
-abbrev all_told : Out → Bool
-all_told (Some p) = all_shown p.0
-all_told None = true
+abbrev all_known : Out → Bool
+all_known (Some p) = all_shown p.0
+all_known None = true
 
 abbrev Known : ℕ → Type 0
-Known n = (m : Stream) → all_told (run n attributes m) ≡ true
+Known n = (m : Stream) → all_known (run n attributes m) ≡ true
 
 read_shown : (n : ℕ) → Known n
 unfolding run
 read_shown zero ts = refl
 read_shown (suc n) ts = go (sees at_pound ts) (runs (run n) attribute ts) (read_shown n)
   where
-    further : (a : Syntax) (o : Out) → all_told o ≡ true → all_told (wrap Node (wrap Left (wrap (Both a) o))) ≡ true
+    further : (a : Syntax) (o : Out) → all_known o ≡ true → all_known (wrap Node (wrap Left (wrap (Both a) o))) ≡ true
     further a None h = refl
     further a (Some p) h = h
 
-    go : (b : Bool) (o : Out) → Known n → all_told (wrap Node (branch b (and_then o (run n attributes)) (Some (Unshown Nothing, ts)))) ≡ true
+    go : (b : Bool) (o : Out) → Known n → all_known (wrap Node (branch b (and_then o (run n attributes)) (Some (Unshown Nothing, ts)))) ≡ true
     go true None known = refl
     go true (Some p) known = further p.0 (run n attributes p.1) (known p.1)
     go false o known = refl
 
-attributes_shown : (ts : Stream) → all_told (parse_rule attributes ts) ≡ true
+attributes_shown : (ts : Stream) → all_known (parse_rule attributes ts) ≡ true
 unfolding parse_rule
 attributes_shown ts = read_shown _ ts
 
@@ -150,7 +150,7 @@ by_chain (Some p) q e = go (q p.1)
     go None = record { is = refl }
     go (Some y) = record { is = ap spine_shown (core_of_shape chain (Both p.0 y.0)) ∙ onto_spine (core p.0) y.0 e.is }
 
-by_led : (o : Out) (q : Parser) → all_told o ≡ true → ((m : Stream) → Spined (q m)) → Spined (wrap Node (wrap (shape leading) (and_then o q)))
+by_led : (o : Out) (q : Parser) → all_known o ≡ true → ((m : Stream) → Spined (q m)) → Spined (wrap Node (wrap (shape leading) (and_then o q)))
 by_led None q h e = record { is = refl }
 by_led (Some p) q h e = go (q p.1) (e p.1)
   where

@@ -9,7 +9,7 @@ use Rattle.syn_grammar.specs.Take.{Out, Chars, sees, take_mark, take_chars, take
 use Rattle.syn_grammar.specs.Values.{alone, moved, onto, sentence, stated}
 use Rattle.syn_grammar.specs.Run.{wrap, and_then, branch, parse_rule, parse_form}
 use Rattle.syn_grammar.proofs.Looks.{sees_mark}
-use Rattle.syn_expr_parse.specs.StatementForms.{then_by, ending, behind_block}
+use Rattle.syn_expr_parse.specs.StatementForms.{then_by, ending, following_block}
 
 -- `;` is taken where it is next
 semicolon_seen : (ts : Stream) → pick (sees at_semicolon ts) (wrap Left (take_mark semicolon ts)) None ≡ wrap Left (take_mark semicolon ts)
@@ -47,7 +47,7 @@ module _ (a : Syntax) where
       further None = refl
       further (Some y) = refl
 
-  pub block_end : (b : Bool) (e : Syntax) (m : Stream) → wrap (alone b a e) (parse_form (table statement_end) m) ≡ behind_block false b a e m
+  pub block_end : (b : Bool) (e : Syntax) (m : Stream) → wrap (alone b a e) (parse_form (table statement_end) m) ≡ following_block false b a e m
   block_end b e m = go (sees at_semicolon m) (sees at_postfix_mark m) (take_mark semicolon m)
     where
       first : (o : Out) → wrap (alone b a e) (wrap Left o) ≡ wrap (λ s. sentence b (moved a e) (Left s)) o

@@ -12,7 +12,7 @@ use Rattle.syn_grammar.specs.Values.{alone, core, going_on, moved, new, onto, se
 use Rattle.syn_grammar.specs.Run.{wrap, and_then, branch, parse_rule, parse_form}
 use Rattle.syn_grammar.proofs.Each.{after_block_is, after_expression_is, statement_end_is, statement_rest_is, statements_is}
 use Rattle.syn_grammar.specs.Plan.{follow, by_test, run_plan}
-use Rattle.syn_grammar.specs.ItemPlan.{item_behind}
+use Rattle.syn_grammar.specs.ItemPlan.{item_after}
 use Rattle.syn_grammar.specs.ItemStatements.{item_listed}
 use Rattle.syn_grammar.specs.ItemStatements as listed_item
 use Rattle.syn_grammar.specs.StatementPlans.{of_other, other_listed, other_statement}
@@ -21,21 +21,21 @@ use Rattle.syn_grammar.proofs.Run.{parse_rule_is}
 use Rattle.syn_grammar.proofs.Shapes.{is_shaped}
 use Rattle.syn_grammar.proofs.ItemStatements.{item_statements}
 use Rattle.syn_grammar.proofs.StatementPlans.{statement_plan_is, statements_plan_is}
-use Rattle.syn_expr_parse.specs.StatementForms.{then_by, ending, behind_block, unless_postfix, expression_statement, macro_statement, crate_macro_statement, goes_on, crate_item, item_statement, by_item, behind_attributes, statement_by, lone_semicolon, next_statement, before_others}
+use Rattle.syn_expr_parse.specs.StatementForms.{then_by, ending, following_block, unless_postfix, expression_statement, macro_statement, crate_macro_statement, proceeds, crate_item, item_statement, by_item, after_attributes, statement_by, lone_semicolon, next_statement, before_others}
 use Rattle.syn_expr_parse.proofs.CrateMacros.{crate_alone}
 use Rattle.syn_expr_parse.proofs.StatementEnds.{block_end, made, made_branch, with_semicolon}
 
 -- A STATEMENT ALONE
 
 module _ (a : Syntax) where
-  of_block : (s : Syntax) (m : Stream) → made a (wrap (Shaped said) (wrap (Both s) (parse_rule statement_end m))) ≡ behind_block false false a (core s) m
+  of_block : (s : Syntax) (m : Stream) → made a (wrap (Shaped said) (wrap (Both s) (parse_rule statement_end m))) ≡ following_block false false a (core s) m
   of_block s m = ap (λ o. made a (wrap (Shaped said) (wrap (Both s) o))) (statement_end_is m) ∙ go (parse_form (table statement_end) m) ∙ block_end a false (core s) m
     where
       go : (o : Out) → made a (wrap (Shaped said) (wrap (Both s) (wrap Node o))) ≡ wrap (alone false a (core s)) o
       go None = refl
       go (Some p) = refl
 
-  of_macro : (s : Syntax) (m : Stream) → made a (wrap (Shaped said_macro) (wrap (Both (new Macro s)) (parse_rule statement_end m))) ≡ behind_block false true a (new Macro s) m
+  of_macro : (s : Syntax) (m : Stream) → made a (wrap (Shaped said_macro) (wrap (Both (new Macro s)) (parse_rule statement_end m))) ≡ following_block false true a (new Macro s) m
   of_macro s m = ap (λ o. made a (wrap (Shaped said_macro) (wrap (Both (new Macro s)) o))) (statement_end_is m) ∙ go (parse_form (table statement_end) m) ∙ block_end a true (new Macro s) m
     where
       go : (o : Out) → made a (wrap (Shaped said_macro) (wrap (Both (new Macro s)) (wrap Node o))) ≡ wrap (alone true a (new Macro s)) o
@@ -54,11 +54,11 @@ module _ (a : Syntax) where
   of_local (Some p) = refl
 
   -- each after what it begins with
-  macro_first : (o : Out) → made a (wrap (Shaped said_macro) (and_then (wrap (new Macro) o) (parse_rule statement_end))) ≡ then_by (wrap (new Macro) o) (behind_block false true a)
+  macro_first : (o : Out) → made a (wrap (Shaped said_macro) (and_then (wrap (new Macro) o) (parse_rule statement_end))) ≡ then_by (wrap (new Macro) o) (following_block false true a)
   macro_first None = refl
   macro_first (Some p) = of_macro p.0 p.1
 
-  block_first : (o : Out) → made a (wrap (Shaped said) (and_then o (parse_rule statement_end))) ≡ then_by (wrap core o) (behind_block false false a)
+  block_first : (o : Out) → made a (wrap (Shaped said) (and_then o (parse_rule statement_end))) ≡ then_by (wrap core o) (following_block false false a)
   block_first None = refl
   block_first (Some p) = of_block p.0 p.1
 
@@ -66,10 +66,10 @@ module _ (a : Syntax) where
   expression_first None = refl
   expression_first (Some p) = of_expression p.0 p.1
 
-  behind : (m : Stream) → made a (parse_form other_statement m)
+  following : (m : Stream) → made a (parse_form other_statement m)
       ≡ pick (sees at_crate_macro m) (made a (parse_rule crate_macro m)) (pick (sees at_brace_macro m) (macro_statement false a m)
       (pick (sees (at_word w_let) m) (wrap (Shaped a_local) (wrap (Both a) (parse_rule local m))) (expression_statement false a m)))
-  behind m =
+  following m =
       made_branch a (sees at_crate_macro m) _ _ _ _ refl
       (made_branch a (sees at_brace_macro m) _ _ _ _ (macro_first (parse_rule macro_invocation m))
       (made_branch a (sees (at_word w_let) m) _ _ _ _ (of_local (parse_rule local m))
@@ -82,26 +82,26 @@ core_stated a (Some p) = let (j, t, e) = is_shaped attributed (Both a p.0) in ap
 
 module _ (ts m : Stream) (a : Syntax) (outer : parse_rule attributes ts ≡ Some (a, m)) where
   -- where no item is next
-  other : (u v : Bool) → sees at_crate_macro m ≡ u → goes_on (parse_rule macro_invocation m) ≡ v →
+  other : (u v : Bool) → sees at_crate_macro m ≡ u → proceeds (parse_rule macro_invocation m) ≡ v →
       pick (sees at_crate_macro m) (made a (parse_rule crate_macro m)) (pick (sees at_brace_macro m) (macro_statement false a m)
       (pick (sees (at_word w_let) m) (wrap (Shaped a_local) (wrap (Both a) (parse_rule local m))) (expression_statement false a m)))
-      ≡ pick (and u v) (item_statement ts) (behind_attributes false a m)
+      ≡ pick (and u v) (item_statement ts) (after_attributes false a m)
   other false v h k = rw h refl
   other true v h k = rw h (crate_alone ts m a outer h ∙ ap (λ b. pick b (item_statement ts) (crate_macro_statement false a m)) k)
 
   by_look : (b : Bool) → sees at_item m ≡ b → parse_rule statement ts ≡ wrap Node (by_item false ts a m)
-  by_look true h = (item_statements ts m a outer h).0 ∙ go (parse_rule item ts) ∙ ap (λ b. wrap Node (pick (or b (crate_item false m)) (item_statement ts) (behind_attributes false a m))) (sym h)
+  by_look true h = (item_statements ts m a outer h).0 ∙ go (parse_rule item ts) ∙ ap (λ b. wrap Node (pick (or b (crate_item false m)) (item_statement ts) (after_attributes false a m))) (sym h)
     where
       go : (o : Out) → wrap listed_item.item_statement o ≡ wrap Node (wrap (Shaped an_item) o)
       go None = refl
       go (Some p) = refl
   by_look false h =
-      let way : Syntax → Parser = λ a m. by_test (sees at_item m) (wrap listed_item.item_statement (run_plan (item_behind a) kept_item ts m)) (wrap (of_other a) (parse_form other_statement m)) in
+      let way : Syntax → Parser = λ a m. by_test (sees at_item m) (wrap listed_item.item_statement (run_plan (item_after a) kept_item ts m)) (wrap (of_other a) (parse_form other_statement m)) in
       statement_plan_is ts ∙ ap (follow way) outer
-      ∙ ap (λ b. by_test b (wrap listed_item.item_statement (run_plan (item_behind a) kept_item ts m)) (wrap (of_other a) (parse_form other_statement m))) h
+      ∙ ap (λ b. by_test b (wrap listed_item.item_statement (run_plan (item_after a) kept_item ts m)) (wrap (of_other a) (parse_form other_statement m))) h
       ∙ core_stated a (parse_form other_statement m)
-      ∙ ap (wrap Node) (behind a m ∙ other (sees at_crate_macro m) (goes_on (parse_rule macro_invocation m)) refl refl)
-      ∙ ap (λ b. wrap Node (pick (or b (crate_item false m)) (item_statement ts) (behind_attributes false a m))) (sym h)
+      ∙ ap (wrap Node) (following a m ∙ other (sees at_crate_macro m) (proceeds (parse_rule macro_invocation m)) refl refl)
+      ∙ ap (λ b. wrap Node (pick (or b (crate_item false m)) (item_statement ts) (after_attributes false a m))) (sym h)
 
 pub statement_alone : (ts : Stream) → parse_rule statement ts ≡ wrap Node (statement_by false ts)
 unfolding statement_by
@@ -109,7 +109,7 @@ statement_alone ts = go (parse_rule attributes ts) refl
   where
     go : (o : Out) → parse_rule attributes ts ≡ o → parse_rule statement ts ≡ wrap Node (then_by o (by_item false ts))
     go None h =
-        let way : Syntax → Parser = λ a m. by_test (sees at_item m) (wrap listed_item.item_statement (run_plan (item_behind a) kept_item ts m)) (wrap (of_other a) (parse_form other_statement m)) in
+        let way : Syntax → Parser = λ a m. by_test (sees at_item m) (wrap listed_item.item_statement (run_plan (item_after a) kept_item ts m)) (wrap (of_other a) (parse_form other_statement m)) in
         statement_plan_is ts ∙ ap (follow way) h
     go (Some p) h = by_look ts p.1 p.0 h (sees at_item p.1) refl
 
@@ -157,7 +157,7 @@ module _ (b : Bool) (a : Syntax) where
       go None = refl
       go (Some y) = refl
 
-  block_after : (e : Syntax) (m : Stream) → listed_as e (parse_form (table after_block) m) ≡ then_by (behind_block true b a e m) more
+  block_after : (e : Syntax) (m : Stream) → listed_as e (parse_form (table after_block) m) ≡ then_by (following_block true b a e m) more
   block_after e m = go (sees at_semicolon m) (sees at_postfix_mark m)
     where
       last : (z : Out) → listed_as e (wrap Right (wrap Right z)) ≡ wrap (before_others (sentence b (moved a e) (Right Nothing))) z
@@ -184,14 +184,14 @@ module _ (outer : Syntax) where
   built_branch false x None u v h k = k
   built_branch false x (Some p) u v h k = k
 
-  list_of_block : (s : Syntax) (m : Stream) → built (wrap (Shaped said) (wrap (Both s) (parse_rule after_block m))) ≡ then_by (behind_block true false a (core s) m) more
+  list_of_block : (s : Syntax) (m : Stream) → built (wrap (Shaped said) (wrap (Both s) (parse_rule after_block m))) ≡ then_by (following_block true false a (core s) m) more
   list_of_block s m = ap (λ o. built (wrap (Shaped said) (wrap (Both s) o))) (after_block_is m) ∙ go (parse_form (table after_block) m) ∙ block_after false a (core s) m
     where
       go : (o : Out) → built (wrap (Shaped said) (wrap (Both s) (wrap Node o))) ≡ listed_as false a (core s) o
       go None = refl
       go (Some p) = refl
 
-  list_of_macro : (s : Syntax) (m : Stream) → built (wrap (Shaped said_macro) (wrap (Both (new Macro s)) (parse_rule after_block m))) ≡ then_by (behind_block true true a (new Macro s) m) more
+  list_of_macro : (s : Syntax) (m : Stream) → built (wrap (Shaped said_macro) (wrap (Both (new Macro s)) (parse_rule after_block m))) ≡ then_by (following_block true true a (new Macro s) m) more
   list_of_macro s m = ap (λ o. built (wrap (Shaped said_macro) (wrap (Both (new Macro s)) o))) (after_block_is m) ∙ go (parse_form (table after_block) m) ∙ block_after true a (new Macro s) m
     where
       go : (o : Out) → built (wrap (Shaped said_macro) (wrap (Both (new Macro s)) (wrap Node o))) ≡ listed_as true a (new Macro s) o
@@ -203,7 +203,7 @@ module _ (outer : Syntax) where
       ap (λ o. built (wrap (Shaped said_macro) (wrap (Both (new Macro s)) (branch (sees at_postfix_mark m) None o)))) (after_block_is m)
       ∙ go (sees at_postfix_mark m) (parse_form (table after_block) m)
       ∙ ap (pick (sees at_postfix_mark m) None) (block_after true a (new Macro s) m)
-      ∙ turn (sees at_postfix_mark m) (behind_block true true a (new Macro s) m)
+      ∙ turn (sees at_postfix_mark m) (following_block true true a (new Macro s) m)
     where
       go : (c : Bool) (o : Out) → built (wrap (Shaped said_macro) (wrap (Both (new Macro s)) (branch c None (wrap Node o)))) ≡ pick c None (listed_as true a (new Macro s) o)
       go true o = refl
@@ -229,7 +229,7 @@ module _ (outer : Syntax) where
       go None = refl
       go (Some y) = refl
 
-  list_macro_first : (o : Out) → built (wrap (Shaped said_macro) (and_then (wrap (new Macro) o) (parse_rule after_block))) ≡ then_by (then_by (wrap (new Macro) o) (behind_block true true a)) more
+  list_macro_first : (o : Out) → built (wrap (Shaped said_macro) (and_then (wrap (new Macro) o) (parse_rule after_block))) ≡ then_by (then_by (wrap (new Macro) o) (following_block true true a)) more
   list_macro_first None = refl
   list_macro_first (Some p) = list_of_macro p.0 p.1
 
@@ -237,7 +237,7 @@ module _ (outer : Syntax) where
   list_crate_macro_first None = refl
   list_crate_macro_first (Some p) = list_of_crate_macro p.0 p.1
 
-  list_block_first : (o : Out) → built (wrap (Shaped said) (and_then o (parse_rule after_block))) ≡ then_by (then_by (wrap core o) (behind_block true false a)) more
+  list_block_first : (o : Out) → built (wrap (Shaped said) (and_then o (parse_rule after_block))) ≡ then_by (then_by (wrap core o) (following_block true false a)) more
   list_block_first None = refl
   list_block_first (Some p) = list_of_block p.0 p.1
 
@@ -245,15 +245,15 @@ module _ (outer : Syntax) where
   list_expression_first None = refl
   list_expression_first (Some p) = list_of_expression p.0 p.1
 
-  rest_behind : (m : Stream) → built (parse_form (table statement_rest) m) ≡ then_by (behind_attributes true a m) more
-  rest_behind m =
+  rest_following : (m : Stream) → built (parse_form (table statement_rest) m) ≡ then_by (after_attributes true a m) more
+  rest_following m =
       built_branch (sees at_crate_macro m) _ _ _ _ (list_crate_macro_first (parse_rule macro_invocation m))
       (built_branch (sees at_brace_macro m) _ _ _ _ (list_macro_first (parse_rule macro_invocation m))
       (built_branch (sees (at_word w_let) m) _ _ _ _ (list_of_local (parse_rule local m))
       (built_branch (sees at_block_like m) _ _ _ _ (list_block_first (parse_rule block_like m)) (list_expression_first (parse_rule whole_expression m)))))
 
-  rest_is : (m : Stream) → built (parse_rule statement_rest m) ≡ then_by (behind_attributes true a m) more
-  rest_is m = ap built (statement_rest_is m) ∙ go (parse_form (table statement_rest) m) ∙ rest_behind m
+  rest_is : (m : Stream) → built (parse_rule statement_rest m) ≡ then_by (after_attributes true a m) more
+  rest_is m = ap built (statement_rest_is m) ∙ go (parse_form (table statement_rest) m) ∙ rest_following m
     where
       go : (o : Out) → built (wrap Node o) ≡ built o
       go None = refl
@@ -275,17 +275,17 @@ item_first (Some p) = go (parse_rule statements p.1)
 
 module _ (ts : Stream) (h : sees ended ts ≡ false) where
   abbrev way : Syntax → Parser
-  way a m = by_test (sees at_item m) (wrap item_listed (and_then (run_plan (item_behind a) kept_item ts m) (parse_rule statements))) (wrap (other_listed a) (parse_rule statement_rest m))
+  way a m = by_test (sees at_item m) (wrap item_listed (and_then (run_plan (item_after a) kept_item ts m) (parse_rule statements))) (wrap (other_listed a) (parse_rule statement_rest m))
 
   list_by_look : (m : Stream) (a : Syntax) (c : sees at_semicolon ts ≡ false) → parse_rule attributes ts ≡ Some (a, m) → (b : Bool) → sees at_item m ≡ b → parse_rule statements ts ≡ then_by (by_item true ts a m) more
   list_by_look m a c outer true k =
-      (item_statements ts m a outer k).1 h c ∙ item_first (parse_rule item ts) ∙ ap (λ b. then_by (pick (or b false) (item_statement ts) (behind_attributes true a m)) more) (sym k)
+      (item_statements ts m a outer k).1 h c ∙ item_first (parse_rule item ts) ∙ ap (λ b. then_by (pick (or b false) (item_statement ts) (after_attributes true a m)) more) (sym k)
   list_by_look m a c outer false k =
       let (x, n) = is_node (parse_form (table attributes) ts) a m (sym (parse_rule_is attributes ts) ∙ outer) in
       statements_plan_is ts h c ∙ ap (follow way) outer
-      ∙ ap (λ b. by_test b (wrap item_listed (and_then (run_plan (item_behind a) kept_item ts m) (parse_rule statements))) (wrap (other_listed a) (parse_rule statement_rest m))) k
-      ∙ subst (λ z. wrap (other_listed z) (parse_rule statement_rest m) ≡ then_by (behind_attributes true z m) more) (sym n) (rest_is x m)
-      ∙ ap (λ b. then_by (pick (or b false) (item_statement ts) (behind_attributes true a m)) more) (sym k)
+      ∙ ap (λ b. by_test b (wrap item_listed (and_then (run_plan (item_after a) kept_item ts m) (parse_rule statements))) (wrap (other_listed a) (parse_rule statement_rest m))) k
+      ∙ subst (λ z. wrap (other_listed z) (parse_rule statement_rest m) ≡ then_by (after_attributes true z m) more) (sym n) (rest_is x m)
+      ∙ ap (λ b. then_by (pick (or b false) (item_statement ts) (after_attributes true a m)) more) (sym k)
 
   list_by_attributes : (c : sees at_semicolon ts ≡ false) (o : Out) → parse_rule attributes ts ≡ o → parse_rule statements ts ≡ then_by (then_by o (by_item true ts)) more
   list_by_attributes c None k = statements_plan_is ts h c ∙ ap (follow way) k
@@ -308,17 +308,17 @@ statements_more ts h = go (sees at_semicolon ts) refl
     go false e = list_by_attributes ts h e (parse_rule attributes ts) refl
 
 -- a block with what continues it
-pub block_goes_on : (in_list b : Bool) (a e : Syntax) (ts : Stream) (x : Syntax) (m : Stream) → sees at_semicolon ts ≡ false → sees at_postfix_mark ts ≡ true → wrap (onto e) (parse_rule operand_rest ts) ≡ Some (x, m) →
-    behind_block in_list b a e ts ≡ ending in_list b a x m
-block_goes_on in_list b a e ts x m h k got =
+pub block_continues : (in_list b : Bool) (a e : Syntax) (ts : Stream) (x : Syntax) (m : Stream) → sees at_semicolon ts ≡ false → sees at_postfix_mark ts ≡ true → wrap (onto e) (parse_rule operand_rest ts) ≡ Some (x, m) →
+    following_block in_list b a e ts ≡ ending in_list b a x m
+block_continues in_list b a e ts x m h k got =
     let ended_by : Out = wrap (λ s. sentence b (moved a e) (Left s)) (take_mark semicolon ts) in
     let going : Out = then_by (wrap (onto e) (parse_rule operand_rest ts)) (λ z. ending in_list b a z) in
     let over : Out = Some (sentence b (moved a e) (Right Nothing), ts) in
     ap (λ c. pick c ended_by (pick (sees at_postfix_mark ts) going over)) h ∙ ap (λ c. pick c going over) k ∙ ap (λ o. then_by o (λ z. ending in_list b a z)) got
 
 -- AN EXPRESSION AS A STATEMENT
-pub by_block : (in_list : Bool) (a e : Syntax) (ts m : Stream) → sees at_block_like ts ≡ true → parse_rule block_like ts ≡ Some (Node e, m) → core e ≡ e → expression_statement in_list a ts ≡ behind_block in_list false a e m
-by_block in_list a e ts m h k c = rw h (ap (λ o. then_by (wrap core o) (behind_block in_list false a)) k ∙ ap (λ s. behind_block in_list false a s m) c)
+pub by_block : (in_list : Bool) (a e : Syntax) (ts m : Stream) → sees at_block_like ts ≡ true → parse_rule block_like ts ≡ Some (Node e, m) → core e ≡ e → expression_statement in_list a ts ≡ following_block in_list false a e m
+by_block in_list a e ts m h k c = rw h (ap (λ o. then_by (wrap core o) (following_block in_list false a)) k ∙ ap (λ s. following_block in_list false a s m) c)
 
 pub by_expression : (in_list : Bool) (a e : Syntax) (ts m : Stream) → sees at_block_like ts ≡ false → parse_rule whole_expression ts ≡ Some (Node e, m) → core e ≡ e → expression_statement in_list a ts ≡ ending in_list false a e m
 by_expression in_list a e ts m h k c = rw h (ap (λ o. then_by (wrap core o) (ending in_list false a)) k ∙ ap (λ s. ending in_list false a s m) c)

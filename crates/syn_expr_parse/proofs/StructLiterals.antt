@@ -13,16 +13,16 @@ use Rattle.syn_tokens.specs.Listing.{last_of, list_of}
 use Rattle.syn_expr_parse.specs.StructLiterals.{base_alone, base_form, fields_before, literal_of_parts, one_before}
 
 -- after a field
-abbrev behind : Stream → Out
-behind m = branch (sees at_comma m) (and_then (take_mark comma m) (parse_rule literal_fields)) (Some (Nothing, m))
+abbrev following : Stream → Out
+following m = branch (sees at_comma m) (and_then (take_mark comma m) (parse_rule literal_fields)) (Some (Nothing, m))
 
 abbrev read : Out → Out
 read o = wrap Node (wrap literal_fields_of o)
 
 fields_are : (ts : Stream) (u v : Bool) → sees ended ts ≡ u → sees at_dots ts ≡ v →
-    parse_rule literal_fields ts ≡ read (branch u (Some (Nothing, ts)) (branch v (parse_form base_form ts) (and_then (parse_rule literal_field ts) behind)))
-fields_are ts u v h k = literal_fields_is ts ∙ ap (λ b. read (branch b (Some (Nothing, ts)) (branch (sees at_dots ts) (parse_form base_form ts) (and_then (parse_rule literal_field ts) behind)))) h
-    ∙ ap (λ b. read (branch u (Some (Nothing, ts)) (branch b (parse_form base_form ts) (and_then (parse_rule literal_field ts) behind)))) k
+    parse_rule literal_fields ts ≡ read (branch u (Some (Nothing, ts)) (branch v (parse_form base_form ts) (and_then (parse_rule literal_field ts) following)))
+fields_are ts u v h k = literal_fields_is ts ∙ ap (λ b. read (branch b (Some (Nothing, ts)) (branch (sees at_dots ts) (parse_form base_form ts) (and_then (parse_rule literal_field ts) following)))) h
+    ∙ ap (λ b. read (branch u (Some (Nothing, ts)) (branch b (parse_form base_form ts) (and_then (parse_rule literal_field ts) following)))) k
 
 module _ (f : Syntax → Syntax) (ts : Stream) where
   pub literal_end : sees ended ts ≡ true → wrap f (parse_rule literal_fields ts) ≡ Some (f (literal_of_parts (Node (Left Nothing)) (Right Nothing) (Right Nothing)), ts)
@@ -42,12 +42,12 @@ module _ (f : Syntax → Syntax) (ts : Stream) where
 
     module _ (no_base : sees at_dots ts ≡ false) where
       pub literal_refused : parse_rule literal_field ts ≡ None → wrap f (parse_rule literal_fields ts) ≡ None
-      literal_refused h = ap (wrap f) (fields_are ts false false more no_base) ∙ ap (λ o. wrap f (read (wrap Right (wrap Right (and_then o behind))))) h
+      literal_refused h = ap (wrap f) (fields_are ts false false more no_base) ∙ ap (λ o. wrap f (read (wrap Right (wrap Right (and_then o following))))) h
 
       module _ (s : Syntax) (m : Stream) (field : parse_rule literal_field ts ≡ Some (s, m)) where
         by_comma : (b : Bool) → sees at_comma m ≡ b → wrap f (parse_rule literal_fields ts) ≡ wrap f (read (wrap Right (wrap Right (wrap (Both s) (branch b (and_then (take_mark comma m) (parse_rule literal_fields)) (Some (Nothing, m)))))))
         by_comma b h =
-            ap (wrap f) (fields_are ts false false more no_base) ∙ ap (λ o. wrap f (read (wrap Right (wrap Right (and_then o behind))))) field
+            ap (wrap f) (fields_are ts false false more no_base) ∙ ap (λ o. wrap f (read (wrap Right (wrap Right (and_then o following))))) field
             ∙ ap (λ b. wrap f (read (wrap Right (wrap Right (wrap (Both s) (branch b (and_then (take_mark comma m) (parse_rule literal_fields)) (Some (Nothing, m)))))))) h
 
         pub literal_last : sees at_comma m ≡ false → wrap f (parse_rule literal_fields ts) ≡ Some (f (literal_of_parts (Node (Right (Both s (Right Nothing)))) (Right Nothing) (Right Nothing)), m)

@@ -2,7 +2,7 @@
 use Rattle.std.proofs.Common.{◌≡◌, Bool, true, false, Some, None, refl, sym, ap, subst, ◌∙◌}
 use Rattle.syn_grammar.specs.Words.{colon, w_break, w_continue, w_false, w_if, w_return, w_true, w_unsafe, minus, exclamation, star}
 use Rattle.syn_grammar.specs.Tokens.{Stream, pick, at_lifetime, at_word}
-use Rattle.syn_grammar.specs.Shape.{Variant, Block, Break, Continue, Grouped, If, Lit, Macro, Path, Reference, Return, Unary, Unsafe, expr, behind_it, operand, operator, dotted, fields, bracketed, labelled, choice, chain}
+use Rattle.syn_grammar.specs.Shape.{Variant, Block, Break, Continue, Grouped, If, Lit, Macro, Path, Reference, Return, Unary, Unsafe, expr, after_it, operand, operator, dotted, fields, bracketed, labelled, choice, chain}
 use Rattle.syn_grammar.specs.Rules.{attributes, block_like, body, if_expression, loop_expression, path_as_expression, postfixes, primary, unary}
 use Rattle.syn_grammar.specs.Grammar.{Syntax, Nothing, Both, Left, Right, Node, Unshown, Shaped, Grammar, empty, lifetime, ◌&◌, when◌then◌else◌, rule, shaped}
 use Rattle.syn_grammar.specs.Forms.{punctuation}
@@ -130,7 +130,7 @@ onto_shows a (Node l) e = onto_shows a l e
 onto_shows a (Left l) e = onto_shows a l e
 onto_shows a (Right l) e = onto_shows a l e
 onto_shows a (Both l m) e = onto_shows (onto a l) m (onto_shows a l e)
-onto_shows a (Shaped (behind_it v) p) e = refl
+onto_shows a (Shaped (after_it v) p) e = refl
 onto_shows a (Shaped (operator v) p) e = refl
 onto_shows a (Shaped dotted p) e = refl
 onto_shows a (Shaped fields p) e = literal_shows a p e

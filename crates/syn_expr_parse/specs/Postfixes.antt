@@ -2,7 +2,7 @@
 use Rattle.std.specs.Prelude.{List, [], ◌∷◌, Some, None}
 use Rattle.syn_grammar.specs.Words.{colons, dot, question}
 use Rattle.syn_grammar.specs.Tokens.{pick, Paren, Bracket, Look}
-use Rattle.syn_grammar.specs.Shape.{Shape, Call, Index, Try, behind_it, dotted}
+use Rattle.syn_grammar.specs.Shape.{Shape, Call, Index, Try, after_it, dotted}
 use Rattle.syn_grammar.specs.Rules.{Rule, expressions, generic_arguments, member, whole_expression}
 use Rattle.syn_grammar.specs.Grammar.{Syntax, Both, Right, Node, Grammar, name, empty, ◌&◌, when◌then◌else◌, inside, rule, shaped}
 use Rattle.syn_grammar.specs.Forms.{plainly, punctuation}
@@ -26,7 +26,7 @@ Link = Look × (Shape × Grammar)
 
 abbrev pub postfix_links : List Link
 postfix_links =
-    (at_paren, (behind_it Call, arguments_form)) ∷ (at_bracket, (behind_it Index, index_form)) ∷ (at_question, (behind_it Try, punctuation question))
+    (at_paren, (after_it Call, arguments_form)) ∷ (at_bracket, (after_it Index, index_form)) ∷ (at_question, (after_it Try, punctuation question))
     ∷ (at_dot, (dotted, member_form)) ∷ []
 
 -- the form of links and what a rule reads after them

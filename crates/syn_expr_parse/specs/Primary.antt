@@ -47,12 +47,12 @@ braces_form = when at_brace then shaped fields literal_form else empty
 abbrev pub in_literal : Syntax → Syntax → Syntax
 in_literal path braces = new Struct (Both path braces)
 
-abbrev pub behind_path : Syntax → Parser
-behind_path path ts = pick (sees at_brace ts) (wrap (in_literal path) (parse_form literal_form ts)) (Some (new Path path, ts))
+abbrev pub after_path : Syntax → Parser
+after_path path ts = pick (sees at_brace ts) (wrap (in_literal path) (parse_form literal_form ts)) (Some (new Path path, ts))
 
 -- a path, in a head without braces
 abbrev pub path_out : Spot → Parser
-path_out Spot-m.Anywhere ts = then_by (parse_rule path_as_expression ts) behind_path
+path_out Spot-m.Anywhere ts = then_by (parse_rule path_as_expression ts) after_path
 path_out Spot-m.Head ts = wrap (new Path) (parse_rule path_as_expression ts)
 
 -- `return`, `break`, `continue` or a path

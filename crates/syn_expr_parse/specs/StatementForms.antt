@@ -25,17 +25,17 @@ abbrev pub ending : Bool → Bool → Syntax → Syntax → Parser
 ending in_list b a e ts = wrap (λ m. sentence b (moved a e) m) (terminator in_list ts)
 
 -- the same of a block or a macro in braces, which needs no `;`
-abbrev pub behind_block : Bool → Bool → Syntax → Syntax → Parser
-behind_block in_list b a e ts =
+abbrev pub following_block : Bool → Bool → Syntax → Syntax → Parser
+following_block in_list b a e ts =
     pick (sees at_semicolon ts) (wrap (λ m. sentence b (moved a e) (Left m)) (take_mark semicolon ts))
     (pick (sees at_postfix_mark ts) (then_by (wrap (onto e) (parse_rule operand_rest ts)) (λ x. ending in_list b a x)) (Some (sentence b (moved a e) (Right Nothing), ts)))
 
 -- a macro in braces; by `crate` alone it is an expression's beginning no more
 abbrev pub macro_statement : Bool → Syntax → Parser
-macro_statement in_list a ts = then_by (wrap (new Macro) (parse_rule macro_invocation ts)) (behind_block in_list true a)
+macro_statement in_list a ts = then_by (wrap (new Macro) (parse_rule macro_invocation ts)) (following_block in_list true a)
 
 abbrev pub unless_postfix : Bool → Syntax → Syntax → Parser
-unless_postfix in_list a e ts = pick (sees at_postfix_mark ts) None (behind_block in_list true a e ts)
+unless_postfix in_list a e ts = pick (sees at_postfix_mark ts) None (following_block in_list true a e ts)
 
 abbrev pub crate_macro_statement : Bool → Syntax → Parser
 crate_macro_statement in_list a ts = then_by (wrap (new Macro) (parse_rule macro_invocation ts)) (unless_postfix in_list a)
@@ -43,25 +43,25 @@ crate_macro_statement in_list a ts = then_by (wrap (new Macro) (parse_rule macro
 -- an expression as a statement
 abbrev pub expression_statement : Bool → Syntax → Parser
 expression_statement in_list a ts =
-    pick (sees at_block_like ts) (then_by (wrap core (parse_rule block_like ts)) (behind_block in_list false a))
+    pick (sees at_block_like ts) (then_by (wrap core (parse_rule block_like ts)) (following_block in_list false a))
     (then_by (wrap core (parse_rule whole_expression ts)) (ending in_list false a))
 
 -- a statement that is no item, after its attributes
-abbrev pub behind_attributes : Bool → Syntax → Parser
-behind_attributes in_list a ts =
+abbrev pub after_attributes : Bool → Syntax → Parser
+after_attributes in_list a ts =
     pick (sees at_crate_macro ts) (crate_macro_statement in_list a ts)
     (pick (sees at_brace_macro ts) (macro_statement in_list a ts)
     (pick (sees (at_word w_let) ts) (wrap (Shaped a_local) (wrap (Both a) (parse_rule local ts))) (expression_statement in_list a ts)))
 
 -- what continues an expression follows what was read
-abbrev pub goes_on : Out → Bool
-goes_on (Some p) = sees at_postfix_mark p.1
-goes_on None = false
+abbrev pub proceeds : Out → Bool
+proceeds (Some p) = sees at_postfix_mark p.1
+proceeds None = false
 
 -- alone, a macro of `crate` in braces followed by this is an item
 abbrev pub crate_item : Bool → Stream → Bool
 crate_item true ts = false
-crate_item false ts = and (sees at_crate_macro ts) (goes_on (parse_rule macro_invocation ts))
+crate_item false ts = and (sees at_crate_macro ts) (proceeds (parse_rule macro_invocation ts))
 
 abbrev pub item_next : Bool → Stream → Bool
 item_next in_list ts = or (sees at_item ts) (crate_item in_list ts)
@@ -72,7 +72,7 @@ item_statement ts = wrap (Shaped an_item) (parse_rule item ts)
 
 -- a statement that begins here, by what follows its attributes
 abbrev pub by_item : Bool → Stream → Syntax → Parser
-by_item in_list start a ts = pick (item_next in_list ts) (item_statement start) (behind_attributes in_list a ts)
+by_item in_list start a ts = pick (item_next in_list ts) (item_statement start) (after_attributes in_list a ts)
 
 unfoldable pub statement_by : Bool → Parser
 statement_by in_list ts = then_by (parse_rule attributes ts) (by_item in_list ts)

@@ -15,7 +15,7 @@ use Rattle.syn_grammar.proofs.Extend.{alone}
 use Rattle.syn_grammar.proofs.Proved.{one_tree, spans}
 use Rattle.syn_grammar.proofs.Said.{closed_of, closed_hold}
 use Rattle.syn_grammar.proofs.Takes.{before_is}
-use Rattle.syn_grammar.proofs.Means.{parse_rule_told, parse_rule_found}
+use Rattle.syn_grammar.proofs.Means.{parse_rule_known, parse_rule_found}
 use Rattle.syn_grammar.proofs.PlainValues.{value_plain}
 
 -- ---- the test of all rules holds of each rule
@@ -214,14 +214,14 @@ rule_at_end (suc n) a k _ ts r w x = elim x [ ]
 -- ---- THE LAWS
 pub read_alone : ReadAlone
 read_alone k w ts s r e =
-    let (t, a, h) = parse_rule_told k ts (s, r) e in
+    let (t, a, h) = parse_rule_known k ts (s, r) e in
     let (c, q, b, i) = rule_at_end 4 false k t ts r w a in
     ap (parse_rule k) (before_is ts c r q) ∙ parse_rule_found k c t end b ∙ ap (λ z. Some (z, end)) h
 
 pub like_values : ValuesForgetSpans
 like_values k a b s t e f g =
-    let (x, d, h) = parse_rule_told k a (s, end) f in
-    let (y, c, i) = parse_rule_told k b (t, end) g in
+    let (x, d, h) = parse_rule_known k a (s, end) f in
+    let (y, c, i) = parse_rule_known k b (t, end) g in
     let (u, w, j) = spans k a b x e d in
     let m : u ≡ y = (one_tree k b u y end end w c).0 in
     let n : plain_syntax y ≡ plain_syntax x = ap plain_syntax (sym m) ∙ j in

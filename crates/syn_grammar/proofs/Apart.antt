@@ -1,6 +1,6 @@
 -- The test of unions: two forms are apart if no stream is read by both.
 use Rattle.std.proofs.Common.{◌≡◌, ℕ, zero, suc, Bool, true, false, List, [], ◌∷◌, sym, ap, ◌∙◌, true≢false, ◌⊎◌, inl, inr}
-use Rattle.syn_grammar.specs.Tokens.{Span, Stream, punct, or, and, no, Look, ended, stands, at_generics}
+use Rattle.syn_grammar.specs.Tokens.{Span, Stream, punct, or, and, no, Look, ended, present, at_generics}
 use Rattle.syn_grammar.specs.Rules.{Rule}
 use Rattle.syn_grammar.specs.RuleNumbers.{same_rule}
 use Rattle.syn_grammar.specs.Grammar.{Syntax, Token, Group, Raw, DerivesPrefix, Grammar, empty, token, ◌&◌, when◌then◌else◌, vanishing, inside, raw, either, one_of, rule, such, captured, unshown, supplied, generics_before, opt_generics, row, ordered, among, at_row_comma, shaped}
@@ -9,7 +9,7 @@ use Rattle.syn_grammar.proofs.Sets.{or_split, and_left, and_right, apart_sets, e
 use Rattle.syn_grammar.proofs.FirstSets.{Start, nullable, first_set}
 use Rattle.syn_grammar.proofs.Again.{excluded}
 use Rattle.syn_grammar.proofs.NeverFollow.{never_follow}
-use Rattle.syn_grammar.proofs.FormEquality.{opposite, same, single, tail, all_forms, all_rules, some_form, comma_stands}
+use Rattle.syn_grammar.proofs.FormEquality.{opposite, same, single, tail, all_forms, all_rules, some_form, comma_present}
 
 abbrev pub shared : Grammar → Grammar → Bool
 shared (a & k) (b & l) = or (same a b) (and (single a) (single b))
@@ -83,8 +83,8 @@ pub on_right : {A B B' : Type 0} → (B → B') → A ⊎ B → A ⊎ B'
 on_right f (inl a) = inl a
 on_right f (inr b) = inr (f b)
 
-pub comma_lookahead : (j : Bool) (sp : Span) (m m' : Stream) → m ≡ punct 44 j sp m' → stands at_row_comma m ≡ true
-comma_lookahead j sp m m' e = ap (stands at_row_comma) e ∙ comma_stands j sp m'
+pub comma_lookahead : (j : Bool) (sp : Span) (m m' : Stream) → m ≡ punct 44 j sp m' → present at_row_comma m ≡ true
+comma_lookahead j sp m m' e = ap (present at_row_comma) e ∙ comma_present j sp m'
 
 module _ (table : Rule → Grammar) (said : Rule → Start) where
   abbrev pub each_form : List Rule → List Grammar

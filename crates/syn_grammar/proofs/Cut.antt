@@ -1,7 +1,7 @@
 -- A form reads the same tokens where the rest after them is cut off, if its looks give the same result there.
 use Rattle.std.proofs.Common.{◌≡◌, ℕ, zero, suc, ◌+◌, ◌≤◌, Bool, true, false, List, [], ◌∷◌, refl, sym, ap, ap₂, ◌∙◌, subst, true≢false, ◌⊎◌, inl, inr, arith}
 use Rattle.syn_grammar.specs.Words.{Text}
-use Rattle.syn_grammar.specs.Tokens.{Span, ident, Stream, end, leaf, punct, group, ◌⧺◌, or, and, no, pick, Terminal, Ended, mem, Look, answers, lookahead, stands}
+use Rattle.syn_grammar.specs.Tokens.{Span, ident, Stream, end, leaf, punct, group, ◌⧺◌, or, and, no, pick, Terminal, Ended, mem, Look, answers, lookahead, present}
 use Rattle.syn_grammar.specs.Rules.{Rule}
 use Rattle.syn_grammar.specs.Grammar.{Syntax, Nothing, Token, Mark, Lifetime, Both, Left, Right, Node, Vanishing, Group, Raw, Rest, Case, Such, Shaped, Captured, Unshown, Impl, Done, Last, More, Order, chars, spell, Spelled, Grammar, DerivesPrefix, empty, token, mark, lifetime, ◌&◌, when◌then◌else◌, vanishing, inside, raw, rest_after, either, one_of, rule, such, shaped, captured, unshown, supplied, generics_before, opt_generics, row, ordered, choose, at_row_end, at_row_comma, some_tree, show}
 use Rattle.syn_grammar.specs.Table.{table}
@@ -14,7 +14,7 @@ use Rattle.syn_grammar.proofs.Extend.{carried, closes, alone}
 use Rattle.syn_grammar.proofs.Shapes.{sum_shape, show_sum}
 use Rattle.syn_grammar.proofs.Said.{start_of, starts_hold, closed_of, closed_hold, cut_of, spaced_of}
 use Rattle.syn_grammar.proofs.Alone.{of_every_rule, implies, by_implied, one_said, by_terminal}
-use Rattle.syn_grammar.proofs.Fades.{unjoined, some_behind, unjoined_after, unjoined_append, unjoined_spell, no_tree, some_size, terminal_stays, fades_look, look_fades, faded, near_look, look_stays}
+use Rattle.syn_grammar.proofs.Fades.{unjoined, some_after, unjoined_after, unjoined_append, unjoined_spell, no_tree, some_size, terminal_stays, fades_look, look_fades, faded, near_look, look_stays}
 
 abbrev Derived : Grammar → Syntax → Stream → Stream → Type 0
 Derived g s ts r = DerivesPrefix table g s ts r
@@ -281,23 +281,23 @@ some_of : (g : Grammar) (s : Syntax) (x y r : Stream) → some_number (lowest g)
 some_of g s x y r w a = let p = some_cut g s x y r a in let q = one_least (lowest g) w in some_size x (omega (arith, p, q))
 
 -- a look that tests no fact
-plain_stays : (l : Look) (b : Bool) (x r : Stream) → no (asks_fact l) ≡ true → unjoined x ≡ true → some_tree x ≡ true → stands l (x ⧺ r) ≡ b → stands l x ≡ b
+plain_stays : (l : Look) (b : Bool) (x r : Stream) → no (asks_fact l) ≡ true → unjoined x ≡ true → some_tree x ≡ true → present l (x ⧺ r) ≡ b → present l x ≡ b
 plain_stays l b x r w u e h = sym (by_terminal l (lookahead (x ⧺ r)) (lookahead x) (no_true (asks_fact l) w) (terminal_stays x r u e)) ∙ h
 
-on_stays : (l : Look) (g : Grammar) (s : Syntax) (x y r : Stream) → kept_on l g ≡ true → unjoined x ≡ true → Derived g s (x ⧺ r) (y ⧺ r) → stands l (x ⧺ r) ≡ true → stands l x ≡ true
+on_stays : (l : Look) (g : Grammar) (s : Syntax) (x y r : Stream) → kept_on l g ≡ true → unjoined x ≡ true → Derived g s (x ⧺ r) (y ⧺ r) → present l (x ⧺ r) ≡ true → present l x ≡ true
 on_stays l g s x y r w u a h = go (or_split (closes closed_of g) _ w)
   where
-    at_terminal : some_tree x ≡ true → stays_true l g (lookahead (x ⧺ r)).terminal ≡ true → stands l x ≡ true
+    at_terminal : some_tree x ≡ true → stays_true l g (lookahead (x ⧺ r)).terminal ≡ true → present l x ≡ true
     at_terminal e q = first (or_split (no (may l (lookahead (x ⧺ r)).terminal)) _ q)
       where
-        second : (must l (lookahead (x ⧺ r)).terminal ≡ true) ⊎ (and (near_look l) (three (least (lookahead (x ⧺ r)).terminal g)) ≡ true) → stands l x ≡ true
+        second : (must l (lookahead (x ⧺ r)).terminal ≡ true) ⊎ (and (near_look l) (three (least (lookahead (x ⧺ r)).terminal g)) ≡ true) → present l x ≡ true
         second (inl z) = on_of l (lookahead x) (ap (must l) (sym (terminal_stays x r u e)) ∙ z)
         second (inr z) =
             let p = three_least (least (lookahead (x ⧺ r)).terminal g) (and_right (near_look l) _ z) in
             let i = least_cut g s x y r a in
             sym (look_stays l x r (and_left (near_look l) _ z) u (omega (arith, p, i))) ∙ h
 
-        first : (no (may l (lookahead (x ⧺ r)).terminal) ≡ true) ⊎ (or (must l (lookahead (x ⧺ r)).terminal) (and (near_look l) (three (least (lookahead (x ⧺ r)).terminal g))) ≡ true) → stands l x ≡ true
+        first : (no (may l (lookahead (x ⧺ r)).terminal) ≡ true) ⊎ (or (must l (lookahead (x ⧺ r)).terminal) (and (near_look l) (three (least (lookahead (x ⧺ r)).terminal g))) ≡ true) → present l x ≡ true
         first (inl z) = absurd (true≢false (sym h ∙ off_of l (lookahead (x ⧺ r)) z))
         first (inr z) = second (or_split (must l (lookahead (x ⧺ r)).terminal) _ z)
 
@@ -308,34 +308,34 @@ on_stays l g s x y r w u a h = go (or_split (closes closed_of g) _ w)
         let i = one_least (lowest g) q in
         omega (arith, p, z, i)
 
-    reading : some_number (lowest g) ≡ true → (no (asks_fact l) ≡ true) ⊎ (every (stays_true l g) (first_set start_of g) ≡ true) → stands l x ≡ true
+    reading : some_number (lowest g) ≡ true → (no (asks_fact l) ≡ true) ⊎ (every (stays_true l g) (first_set start_of g) ≡ true) → present l x ≡ true
     reading q (inl z) = plain_stays l true x r z u (some_of g s x y r q a) h
     reading q (inr z) = begun (begins start_of table starts_hold g s (x ⧺ r) (y ⧺ r) a)
       where
-        begun : (mem (lookahead (x ⧺ r)).terminal (first_set start_of g) ≡ true) ⊎ ((nullable start_of g ≡ true) × (x ⧺ r ≡ y ⧺ r)) → stands l x ≡ true
+        begun : (mem (lookahead (x ⧺ r)).terminal (first_set start_of g) ≡ true) ⊎ ((nullable start_of g ≡ true) × (x ⧺ r ≡ y ⧺ r)) → present l x ≡ true
         begun (inl i) = at_terminal (some_of g s x y r q a) (every_at (stays_true l g) (lookahead (x ⧺ r)).terminal (first_set start_of g) z i)
         begun (inr i) = absurd (unread i.1 q)
 
-    at_rest : no (asks_fact l) ≡ true → must l Ended ≡ true → (some_tree x ≡ true) ⊎ (some_tree x ≡ false) → stands l x ≡ true
+    at_rest : no (asks_fact l) ≡ true → must l Ended ≡ true → (some_tree x ≡ true) ⊎ (some_tree x ≡ false) → present l x ≡ true
     at_rest p q (inl z) = plain_stays l true x r p u z h
     at_rest p q (inr z) = on_of l (lookahead x) (ap (λ v. must l (lookahead v).terminal) (no_tree x z) ∙ q)
 
-    rest : (and (no (asks_fact l)) (must l Ended) ≡ true) ⊎ (and (some_number (lowest g)) (or (no (asks_fact l)) (every (stays_true l g) (first_set start_of g))) ≡ true) → stands l x ≡ true
+    rest : (and (no (asks_fact l)) (must l Ended) ≡ true) ⊎ (and (some_number (lowest g)) (or (no (asks_fact l)) (every (stays_true l g) (first_set start_of g))) ≡ true) → present l x ≡ true
     rest (inl q) = at_rest (and_left (no (asks_fact l)) _ q) (and_right (no (asks_fact l)) _ q) (true_or_false (some_tree x))
     rest (inr q) = reading (and_left (some_number (lowest g)) _ q) (or_split (no (asks_fact l)) _ (and_right (some_number (lowest g)) _ q))
 
-    go : (closes closed_of g ≡ true) ⊎ (or (and (no (asks_fact l)) (must l Ended)) (and (some_number (lowest g)) (or (no (asks_fact l)) (every (stays_true l g) (first_set start_of g)))) ≡ true) → stands l x ≡ true
+    go : (closes closed_of g ≡ true) ⊎ (or (and (no (asks_fact l)) (must l Ended)) (and (some_number (lowest g)) (or (no (asks_fact l)) (every (stays_true l g) (first_set start_of g)))) ≡ true) → present l x ≡ true
     go (inl q) = ap (answers l) (closed_cut g s x y r q a).1 ∙ h
     go (inr q) = rest (or_split (and (no (asks_fact l)) (must l Ended)) _ q)
 
-off_stays : (l : Look) (h : Grammar) (s : Syntax) (x y r : Stream) → kept_off l h ≡ true → unjoined x ≡ true → Derived h s (x ⧺ r) (y ⧺ r) → stands l (x ⧺ r) ≡ false → stands l x ≡ false
+off_stays : (l : Look) (h : Grammar) (s : Syntax) (x y r : Stream) → kept_off l h ≡ true → unjoined x ≡ true → Derived h s (x ⧺ r) (y ⧺ r) → present l (x ⧺ r) ≡ false → present l x ≡ false
 off_stays l h s x y r w u a e = go (or_split (closes closed_of h) _ w)
   where
-    rest : (fades_look l ≡ true) ⊎ (and (no (asks_fact l)) (some_number (lowest h)) ≡ true) → stands l x ≡ false
+    rest : (fades_look l ≡ true) ⊎ (and (no (asks_fact l)) (some_number (lowest h)) ≡ true) → present l x ≡ false
     rest (inl q) = look_fades l (lookahead (x ⧺ r)) (lookahead x) q (faded x r u) e
     rest (inr q) = plain_stays l false x r (and_left (no (asks_fact l)) _ q) u (some_of h s x y r (and_right (no (asks_fact l)) _ q) a) e
 
-    go : (closes closed_of h ≡ true) ⊎ (or (fades_look l) (and (no (asks_fact l)) (some_number (lowest h))) ≡ true) → stands l x ≡ false
+    go : (closes closed_of h ≡ true) ⊎ (or (fades_look l) (and (no (asks_fact l)) (some_number (lowest h))) ≡ true) → present l x ≡ false
     go (inl q) = ap (answers l) (closed_cut h s x y r q a).1 ∙ e
     go (inr q) = rest (or_split (fades_look l) _ q)
 
@@ -353,8 +353,8 @@ Part m r = (n : Stream) × (m ≡ n ⧺ r)
 part_before : (c y m r : Stream) → m ≡ c ⧺ (y ⧺ r) → m ≡ (c ⧺ y) ⧺ r
 part_before c y m r e = e ∙ sym (append_append c y r)
 
-behind_unjoined : (x c n m r : Stream) → unjoined x ≡ true → x ⧺ r ≡ c ⧺ m → m ≡ n ⧺ r → unjoined n ≡ true
-behind_unjoined x c n m r u e f = unjoined_after c n (ap unjoined (sym (split_off x c n r (e ∙ ap (λ z. c ⧺ z) f))) ∙ u)
+after_unjoined : (x c n m r : Stream) → unjoined x ≡ true → x ⧺ r ≡ c ⧺ m → m ≡ n ⧺ r → unjoined n ≡ true
+after_unjoined x c n m r u e f = unjoined_after c n (ap unjoined (sym (split_off x c n r (e ∙ ap (λ z. c ⧺ z) f))) ∙ u)
 
 choose_cuts : (b : Bool) (g h : Grammar) → and (cuts g) (cuts h) ≡ true → cuts (choose b g h) ≡ true
 choose_cuts true g h w = and_left (cuts g) _ w
@@ -374,7 +374,7 @@ mutual
       let (c, e, k) = carried table g s (x ⧺ r) m a in
       let (d, f, l) = carried table h t m (y ⧺ r) b in
       let q : m ≡ (d ⧺ y) ⧺ r = part_before d y m r f in
-      let v = behind_unjoined x c (d ⧺ y) m r u e q in
+      let v = after_unjoined x c (d ⧺ y) m r u e q in
       (d ⧺ y, cut g s x (d ⧺ y) r (and_left (cuts g) _ w) u (subst (λ z. Derived g s (x ⧺ r) z) q a), cut h t (d ⧺ y) y r (and_right (cuts g) _ w) v (subst (λ z. Derived h t z (y ⧺ r)) q b))
   cut (when l then g else h) (Left s) x y r w u (v, a) = (
     on_stays l g s x y r (and_left (kept_on l g) _ (and_left (and (kept_on l g) (kept_off l h)) _ w)) u a v,
@@ -401,7 +401,7 @@ mutual
       let q' : m' ≡ n' ⧺ r = part_before c2 y m' r f2 in
       let n = c1 ⧺ n' in
       let q : m ≡ n ⧺ r = part_before c1 n' m r (f1 ∙ ap (λ z. c1 ⧺ z) q') in
-      let v = behind_unjoined x c n m r u f q in
+      let v = after_unjoined x c n m r u f q in
       let i = spelled_one ys n' y (k2 y) in
       (n, e, spelled_cut xs x n r (subst (λ z. Spelled xs (x ⧺ r) z) q d), n', cut_row g h l n n' r w v (some_size n' (omega (arith, i))) (subst (λ z. DerivesPrefix table (row g h) l z (n' ⧺ r)) q (subst (λ z. DerivesPrefix table (row g h) l m z) q' a)), e', k2 y)
   cut _ _ x y r w u a = search false_true
@@ -411,7 +411,7 @@ mutual
   cut_row g h (Last b s) x y r w u e (v, a, n) =
       let (c, f, k) = carried table (choose b g h) s (x ⧺ r) (y ⧺ r) a in
       let q = split_off x c y r f in (
-        plain_stays at_row_end false x r refl u (ap some_tree q ∙ some_behind c y e) v,
+        plain_stays at_row_end false x r refl u (ap some_tree q ∙ some_after c y e) v,
         cut (choose b g h) s x y r (choose_cuts b g h w) u a,
         plain_stays at_row_comma false y r refl (unjoined_after c y (ap unjoined (sym q) ∙ u)) e n,
       )
@@ -423,8 +423,8 @@ mutual
       let n = punct 44 d.0 sp n' in
       let q : m ≡ n ⧺ r = d.1 ∙ ap (punct 44 d.0 sp) q' in
       let z = split_off x c n r (f ∙ ap (λ v. c ⧺ v) q) in
-      let p = behind_unjoined x c n m r u f q in (
-        plain_stays at_row_end false x r refl u (ap some_tree z ∙ some_behind c n refl) v,
+      let p = after_unjoined x c n m r u f q in (
+        plain_stays at_row_end false x r refl u (ap some_tree z ∙ some_after c n refl) v,
         n,
         cut (choose b g h) s x n r (choose_cuts b g h w) u (subst (λ v. Derived (choose b g h) s (x ⧺ r) v) q a),
         n',

@@ -53,8 +53,8 @@ module _ (u : Rule) (ks : List Rule) (q : table u ≡ one_of ks) where
       let r : x.1 ≡ w.1.1 = ap (λ v. v.1) z.2 ∙ ap (λ v. v.1) w.4 in
       (w.0, unwrapped w.1.0, w.2, w.3 ∙ ap Some n ∙ ap (λ m. Some (Node (unwrapped w.1.0), m)) (sym r), ap (λ v. v.0) z.2 ∙ ap (λ v. Node v.0) w.4)
 
-  agrees_told : (k : Rule) (ts : Stream) (s : Syntax) (r : Stream) → parse_rule u ts ≡ Some (Node (Case k s), r) → IsOne k × (parse_rule k ts ≡ Some (Node s, r))
-  agrees_told k ts s r e =
+  agrees_known : (k : Rule) (ts : Stream) (s : Syntax) (r : Stream) → parse_rule u ts ≡ Some (Node (Case k s), r) → IsOne k × (parse_rule k ts ≡ Some (Node s, r))
+  agrees_known k ts s r e =
       let (l, t, i, a, b) = kind_of_read ts (Node (Case k s), r) e in
       let c : (k, s) ≡ (l, t) = ap (λ v. case_of (unwrapped v)) b in
       (subst IsOne (sym (ap (λ p. p.0) c)) i, ap (λ p. parse_rule p.0 ts) c ∙ a ∙ ap (λ p. Some (Node p.1, r)) (sym c))
@@ -70,7 +70,7 @@ module _ (u : Rule) (ks : List Rule) (q : table u ≡ one_of ks) where
 
   -- the laws of this union
   pub agree : (k : Rule) (ts : Stream) (s : Syntax) (r : Stream) → (parse_rule u ts ≡ Some (Node (Case k s), r)) ↔ (IsOne k × (parse_rule k ts ≡ Some (Node s, r)))
-  agree k ts s r = (agrees_told k ts s r, λ (i, e). agrees_found k ts s r i e)
+  agree k ts s r = (agrees_known k ts s r, λ (i, e). agrees_found k ts s r i e)
 
   pub some_kind : (ts : Stream) (s : Syntax) (r : Stream) → parse_rule u ts ≡ Some (s, r) → (k : Rule) × (t : Syntax) × IsOne k × (s ≡ Node (Case k t))
   some_kind ts s r e = let (l, t, i, a, b) = kind_of_read ts (s, r) e in (l, t, i, b)
@@ -80,7 +80,7 @@ module _ (u : Rule) (ks : List Rule) (q : table u ≡ one_of ks) where
   kept_as_read k ts s r h e = go (table k) refl h
     where
       a : parse_rule k ts ≡ Some (Node s, r)
-      a = (agrees_told k ts s r e).1
+      a = (agrees_known k ts s r e).1
 
       go : (g : Grammar) → table k ≡ g → is_kept g ≡ true → (s ≡ Captured Nothing (before ts r)) × (ts ≡ before ts r ⧺ r) × (print (Node (Case k s)) ≡ before ts r)
       go (captured g) p h =

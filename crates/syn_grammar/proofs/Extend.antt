@@ -1,6 +1,6 @@
 -- What was read is read again, as the same tree, before another rest with the same lookahead; closed forms before any rest.
 use Rattle.std.proofs.Common.{◌≡◌, ℕ, Bool, true, false, List, [], ◌∷◌, refl, sym, ap, ◌∙◌, subst, true≢false, ◌⊎◌, inl, inr}
-use Rattle.syn_grammar.specs.Tokens.{Stream, end, leaf, ident, punct, group, ◌⧺◌, and, or, Terminal, Punctuation, mem, answers, asked, lookahead, stands, char_terminal, punctuation_facts, punctuation_lookahead, Look, Lookahead, lookahead_with, is_ended}
+use Rattle.syn_grammar.specs.Tokens.{Stream, end, leaf, ident, punct, group, ◌⧺◌, and, or, Terminal, Punctuation, mem, answers, asked, lookahead, present, char_terminal, punctuation_facts, punctuation_lookahead, Look, Lookahead, lookahead_with, is_ended}
 use Rattle.syn_grammar.specs.Rules.{Rule}
 use Rattle.syn_grammar.specs.RuleNumbers.{same_rule}
 use Rattle.syn_grammar.specs.Grammar.{Syntax, Nothing, Token, Mark, Lifetime, Both, Left, Right, Node, Vanishing, Group, Raw, Rest, Case, Captured, Unshown, Impl, Done, Last, More, Order, Such, Spelled, DerivesPrefix, Grammar, empty, token, mark, lifetime, ◌&◌, when◌then◌else◌, vanishing, inside, raw, rest_after, either, one_of, rule, such, captured, unshown, supplied, generics_before, opt_generics, row, ordered, choose, among, at_unnamed, at_row_end, at_row_comma, Shaped, shaped}
@@ -15,7 +15,7 @@ module _ (table : Rule → Grammar) where
   Carried g s ts r = (c : Stream) × (ts ≡ c ⧺ r) × ((r' : Stream) → lookahead r' ≡ lookahead r → DerivesPrefix table g s (c ⧺ r') r')
 
   -- a condition is the same before a rest with the same lookahead
-  moved : (l : Look) (b : Bool) (c ts r r' : Stream) → ts ≡ c ⧺ r → lookahead r' ≡ lookahead r → stands l ts ≡ b → stands l (c ⧺ r') ≡ b
+  moved : (l : Look) (b : Bool) (c ts r r' : Stream) → ts ≡ c ⧺ r → lookahead r' ≡ lookahead r → present l ts ≡ b → present l (c ⧺ r') ≡ b
   moved l b c ts r r' e f h = ap (answers l) (lookahead_same c r' r f ∙ ap lookahead (sym e)) ∙ h
 
   pub carried : (g : Grammar) (s : Syntax) (ts r : Stream) → DerivesPrefix table g s ts r → Carried g s ts r

@@ -22,11 +22,11 @@ some_before (leaf x sp m) b e = refl
 some_before (punct c j sp m) b e = refl
 some_before (group d o c i m) b e = refl
 
-pub some_behind : (a b : Stream) → some_tree b ≡ true → some_tree (a ⧺ b) ≡ true
-some_behind end b e = e
-some_behind (leaf x sp m) b e = refl
-some_behind (punct c j sp m) b e = refl
-some_behind (group d o c i m) b e = refl
+pub some_after : (a b : Stream) → some_tree b ≡ true → some_tree (a ⧺ b) ≡ true
+some_after end b e = e
+some_after (leaf x sp m) b e = refl
+some_after (punct c j sp m) b e = refl
+some_after (group d o c i m) b e = refl
 
 pub unjoined_after : (a b : Stream) → unjoined (a ⧺ b) ≡ true → unjoined b ≡ true
 unjoined_after end b e = e
@@ -139,11 +139,11 @@ facts_fade [] a b n w f v h = refl
 facts_fade (p ∷ l) a b n w f v h = go (answers p.0 a) (answers p.0 b) (true_or_false (same_fact n p.1)) falls h (facts_fade l a b n (and_right (or (no (fades p.1)) (fades_look p.0)) _ w) f v)
   where
     falls : same_fact n p.1 ≡ true → answers p.0 a ≡ false → answers p.0 b ≡ false
-    falls q = look_fades p.0 a b (told (or_split (no (fades p.1)) _ (and_left (or (no (fades p.1)) (fades_look p.0)) _ w))) f
+    falls q = look_fades p.0 a b (reported (or_split (no (fades p.1)) _ (and_left (or (no (fades p.1)) (fades_look p.0)) _ w))) f
       where
-        told : (no (fades p.1) ≡ true) ⊎ (fades_look p.0 ≡ true) → fades_look p.0 ≡ true
-        told (inl z) = absurd (true≢false (sym v ∙ ap fades (same_fact_eq n p.1 q) ∙ no_true (fades p.1) z))
-        told (inr z) = z
+        reported : (no (fades p.1) ≡ true) ⊎ (fades_look p.0 ≡ true) → fades_look p.0 ≡ true
+        reported (inl z) = absurd (true≢false (sym v ∙ ap fades (same_fact_eq n p.1 q) ∙ no_true (fades p.1) z))
+        reported (inr z) = z
 
     go : (s t : Bool) → (same_fact n p.1 ≡ true) ⊎ (same_fact n p.1 ≡ false) → (same_fact n p.1 ≡ true → s ≡ false → t ≡ false) → has_fact n (pick s (p.1 ∷ facts_for l a) (facts_for l a)) ≡ false →
         (has_fact n (facts_for l a) ≡ false → has_fact n (facts_for l b) ≡ false) → has_fact n (pick t (p.1 ∷ facts_for l b) (facts_for l b)) ≡ false
@@ -185,16 +185,16 @@ lone_fade : (f : Terminal) (l m : List Fact) (n : Fact) → (has_fact n l ≡ fa
 lone_fade (Punctuation (x ∷ [])) l m n k h = k h
 lone_fade _ l m n k h = refl
 
-behind_fades : (a b : Lookahead) (n : Fact) → Faded a b → fades n ≡ true → has_fact n (lone_facts a.terminal a.facts) ≡ false → has_fact n (lone_facts b.terminal b.facts) ≡ false
-behind_fades a b n (inl e) v h = ap (λ z. has_fact n (lone_facts z.terminal z.facts)) e
-behind_fades a b n (inr (e, k)) v h = lone_fade b.terminal a.facts b.facts n (k n v) (ap (λ z. has_fact n (lone_facts z a.facts)) (sym e) ∙ h)
+after_fades : (a b : Lookahead) (n : Fact) → Faded a b → fades n ≡ true → has_fact n (lone_facts a.terminal a.facts) ≡ false → has_fact n (lone_facts b.terminal b.facts) ≡ false
+after_fades a b n (inl e) v h = ap (λ z. has_fact n (lone_facts z.terminal z.facts)) e
+after_fades a b n (inr (e, k)) v h = lone_fade b.terminal a.facts b.facts n (k n v) (ap (λ z. has_fact n (lone_facts z a.facts)) (sym e) ∙ h)
 
 mark_fades : (c : ℕ) (f : Terminal) (a b : Lookahead) (n : Fact) → Faded a b → fades n ≡ true → has_fact n (punctuation_facts c f a) ≡ false → has_fact n (punctuation_facts c f b) ≡ false
 mark_fades c (Punctuation (x ∷ [])) a b n q v h = facts_fade (asked (Punctuation (c ∷ []))) a b n (asked_fades (Punctuation (c ∷ []))) q v h
 mark_fades c (Punctuation (x ∷ y ∷ [])) a b n q v h = go (nat_eq c 58) h
   where
     go : (u : Bool) → has_fact n (pick u (lone_facts a.terminal a.facts) []) ≡ false → has_fact n (pick u (lone_facts b.terminal b.facts) []) ≡ false
-    go true h = behind_fades a b n q v h
+    go true h = after_fades a b n q v h
     go false h = refl
 mark_fades c _ a b n q v h = refl
 
@@ -245,11 +245,11 @@ near_facts [] a b n w e v = refl
 near_facts (p ∷ l) a b n w e v = go (answers p.0 a) (answers p.0 b) (true_or_false (same_fact n p.1)) same (near_facts l a b n (and_right (or (no (near p.1)) (no (asks_fact p.0))) _ w) e v)
   where
     same : same_fact n p.1 ≡ true → answers p.0 a ≡ answers p.0 b
-    same q = by_terminal p.0 a b (told (or_split (no (near p.1)) _ (and_left (or (no (near p.1)) (no (asks_fact p.0))) _ w))) e
+    same q = by_terminal p.0 a b (reported (or_split (no (near p.1)) _ (and_left (or (no (near p.1)) (no (asks_fact p.0))) _ w))) e
       where
-        told : (no (near p.1) ≡ true) ⊎ (no (asks_fact p.0) ≡ true) → asks_fact p.0 ≡ false
-        told (inl z) = absurd (true≢false (sym v ∙ ap near (same_fact_eq n p.1 q) ∙ no_true (near p.1) z))
-        told (inr z) = no_true (asks_fact p.0) z
+        reported : (no (near p.1) ≡ true) ⊎ (no (asks_fact p.0) ≡ true) → asks_fact p.0 ≡ false
+        reported (inl z) = absurd (true≢false (sym v ∙ ap near (same_fact_eq n p.1 q) ∙ no_true (near p.1) z))
+        reported (inr z) = no_true (asks_fact p.0) z
 
     dropped : (s : Bool) (x : List Fact) → same_fact n p.1 ≡ false → has_fact n (pick s (p.1 ∷ x) x) ≡ has_fact n x
     dropped true x q = ap (λ z. or z (has_fact n x)) q
@@ -296,13 +296,13 @@ near_mark : (c : ℕ) (f : Terminal) (a b : Lookahead) (n : Fact) → a.terminal
 near_mark c (Punctuation (x ∷ [])) a b n e v = near_facts (asked (Punctuation (c ∷ []))) a b n (asked_near (Punctuation (c ∷ []))) e v
 near_mark c _ a b n e v = refl
 
-near_behind : (x r : Stream) (n : Fact) → unjoined x ≡ true → 2 ≤ size x → near n ≡ true → has_fact n (lone_facts (lookahead (x ⧺ r)).terminal (lookahead (x ⧺ r)).facts) ≡ has_fact n (lone_facts (lookahead x).terminal (lookahead x).facts)
-near_behind end r n u h v = absurd (omega (arith, h))
-near_behind (leaf l sp m) r n u h v =
+near_after : (x r : Stream) (n : Fact) → unjoined x ≡ true → 2 ≤ size x → near n ≡ true → has_fact n (lone_facts (lookahead (x ⧺ r)).terminal (lookahead (x ⧺ r)).facts) ≡ has_fact n (lone_facts (lookahead x).terminal (lookahead x).facts)
+near_after end r n u h v = absurd (omega (arith, h))
+near_after (leaf l sp m) r n u h v =
     near_lone (leaf_terminal l) (lookahead (leaf l sp m ⧺ r)).facts (lookahead (leaf l sp m)).facts n
     (near_facts (asked (leaf_terminal l)) (lookahead (m ⧺ r)) (lookahead m) n (asked_near (leaf_terminal l)) (terminal_stays m r u (some_size m (omega (arith, h)))) v)
-near_behind (group d o c i m) r n u h v = refl
-near_behind (punct c j sp m) r n u h v =
+near_after (group d o c i m) r n u h v = refl
+near_after (punct c j sp m) r n u h v =
     let e = terminal_stays (punct c j sp m) r u refl in
     ap (λ z. has_fact n (lone_facts z (punctuation_facts c z (lookahead (m ⧺ r))))) e
     ∙ near_mark c (char_terminal c j (lookahead m).terminal) (lookahead (m ⧺ r)) (lookahead m) n (terminal_stays m r (and_right (or (no j) (some_tree m)) _ u) (some_size m (omega (arith, h)))) v
@@ -325,7 +325,7 @@ near_stays (punct c j sp m) r n u h v =
     let e = terminal_stays (punct c j sp m) r u refl in
     let w = and_right (or (no j) (some_tree m)) _ u in
     ap (λ z. has_fact n (punctuation_facts c z (lookahead (m ⧺ r)))) e
-    ∙ near_front c (char_terminal c j (lookahead m).terminal) (lookahead (m ⧺ r)) (lookahead m) n (terminal_stays m r w (some_size m (omega (arith, h)))) (near_behind m r n w (omega (arith, h)) v) v
+    ∙ near_front c (char_terminal c j (lookahead m).terminal) (lookahead (m ⧺ r)) (lookahead m) n (terminal_stays m r w (some_size m (omega (arith, h)))) (near_after m r n w (omega (arith, h)) v) v
 
 -- a look that tests near facts gives the same result where three trees come before the rest
 pub look_stays : (c : Look) (x r : Stream) → near_look c ≡ true → unjoined x ≡ true → 3 ≤ size x → answers c (lookahead (x ⧺ r)) ≡ answers c (lookahead x)

@@ -3,7 +3,7 @@ use Rattle.std.proofs.Common.{◌≡◌, ℕ, Bool, true, false, List, [], ◌�
 use Rattle.std.proofs.lemmas.Bool.{eqb-true}
 use Rattle.syn_grammar.specs.Words.{Text, comma}
 use Rattle.syn_grammar.specs.Shape.{Shape, shape_number, shape_at, shape_back, same_shape}
-use Rattle.syn_grammar.specs.Tokens.{Span, Delimiter, LitKind, Stream, end, leaf, punct, group, and, lookahead, stands, same_text, kind_number, same_fact, delimiter_number, Terminal, Punctuation, starts_mark, join}
+use Rattle.syn_grammar.specs.Tokens.{Span, Delimiter, LitKind, Stream, end, leaf, punct, group, and, lookahead, present, same_text, kind_number, same_fact, delimiter_number, Terminal, Punctuation, starts_mark, join}
 use Rattle.syn_grammar.specs.Rules.{Rule}
 use Rattle.syn_grammar.specs.RuleNumbers.{same_rule}
 use Rattle.syn_grammar.specs.Grammar.{Syntax, chars, Spelled, Kind, name, identifier, word, name_or, literal_of, Grammar, empty, token, mark, lifetime, ◌&◌, when◌then◌else◌, vanishing, inside, raw, rest_after, either, one_of, rule, such, captured, unshown, supplied, generics_before, holds, Test, trailing_brace, no_trailing_brace, has, has_no, one_where, has_part, ends_brace, row, ordered, at_row_comma, index, shaped}
@@ -210,10 +210,10 @@ spelled_same (x ∷ x' ∷ l) [] ts r r' e h k = elim k [ ]
 spelled_same (x ∷ []) (y ∷ y' ∷ l') ts r r' e h k = cc (e)
 spelled_same (x ∷ x' ∷ l) (y ∷ []) ts r r' e h k = cc (e)
 
-pub comma_stands : (j : Bool) (sp : Span) (m : Stream) → stands at_row_comma (punct 44 j sp m) ≡ true
-comma_stands true sp m = go (lookahead m).terminal
+pub comma_present : (j : Bool) (sp : Span) (m : Stream) → present at_row_comma (punct 44 j sp m) ≡ true
+comma_present true sp m = go (lookahead m).terminal
   where
     go : (f : Terminal) → starts_mark comma (join 44 f) ≡ true
     go (Punctuation l) = refl
     go _ = refl
-comma_stands false sp m = refl
+comma_present false sp m = refl

@@ -4,7 +4,7 @@ use Rattle.syn_grammar.specs.Tokens.{Span, Stream, end, punct, ◌⧺◌, and, a
 use Rattle.syn_grammar.specs.Rules.{Rule}
 use Rattle.syn_grammar.specs.Grammar.{Syntax, Nothing, Token, Mark, Lifetime, Both, Left, Right, Node, Vanishing, Group, Raw, Rest, Case, Such, Shaped, Captured, Unshown, Impl, Done, Last, More, Order, spell, holds, Grammar, empty, token, mark, lifetime, ◌&◌, when◌then◌else◌, vanishing, inside, raw, rest_after, either, one_of, rule, such, shaped, captured, unshown, supplied, generics_before, opt_generics, row, ordered, underscore, DerivesPrefix, show, sort, renew}
 use Rattle.syn_grammar.specs.Table.{table}
-use Rattle.syn_grammar.specs.StandsAlone.{reads_shown}
+use Rattle.syn_grammar.specs.IsAlone.{reads_shown}
 use Rattle.syn_grammar.specs.Alone.{all_of}
 use Rattle.syn_grammar.specs.Values.{shape}
 use Rattle.syn_grammar.specs.Run.{value_of}

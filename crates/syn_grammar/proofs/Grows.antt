@@ -1,6 +1,6 @@
 -- A grammar that has grown reads everything that the earlier grammar reads, as the lifted tree.
 use Rattle.std.proofs.Common.{◌≡◌, Bool, true, false, List, [], ◌∷◌, refl, sym, ap, ap₂, ◌∙◌, subst, true≢false, ◌⊎◌, inl, inr}
-use Rattle.syn_grammar.specs.Tokens.{Brace, Stream, end, ◌⧺◌, or, and, no, pick, Terminal, Ended, Name, Word, Punctuation, Literal, Delimited, mem, same_text, same_fact, Look, at_group, lookahead, stands, is_group}
+use Rattle.syn_grammar.specs.Tokens.{Brace, Stream, end, ◌⧺◌, or, and, no, pick, Terminal, Ended, Name, Word, Punctuation, Literal, Delimited, mem, same_text, same_fact, Look, at_group, lookahead, present, is_group}
 use Rattle.syn_grammar.specs.Rules.{Rule, attributes, trait_definition, trait_definition_rest, impl_definition, impl_definition_rest, odd_impl, const_trait, const_impl, odd_const_impl, kept_item, kept_item_rest, kept_in_block, statements, statement, after_block, after_expression, array_content, assigned, bit_and, bit_ands, bit_or, bit_ors, bit_xor, bit_xors, cast, compared, comparison, conjunction, conjunctions, disjunction, disjunctions, expressions, file, item, items, literal_field, literal_fields, named_field, named_fields, operand_rest, primary, product, products, root_mark, rooted_tree, rooted_trees, shift, shifts, statement_rest, sum, sums, unary, use_tree, use_trees, variant, variants, whole_expression}
 use Rattle.syn_grammar.specs.RuleNumbers.{same_rule}
 use Rattle.syn_grammar.specs.Shape.{Shape, same_shape, an_item, listed, single}
@@ -33,7 +33,7 @@ is_empty _ = false
 
 -- where this is true, the next token is no brace group
 abbrev Free : Bool → Stream → Type 0
-Free a r = a ≡ true → stands at_brace_group r ≡ false
+Free a r = a ≡ true → present at_brace_group r ≡ false
 
 -- WHAT IS SAID OF THE RULES
 
@@ -243,13 +243,13 @@ none r e = absurd (true≢false (sym e))
 
 -- before what the second form begins with
 before_form : (a : Bool) (h : Grammar) (t : Syntax) (m r : Stream) → Free a r → DerivesPrefix table h t m r → Free (brace_free a h) m
-before_form a h t m r F y e = go (begins start_of table starts_hold h t m r y) (stands at_brace_group m) refl
+before_form a h t m r F y e = go (begins start_of table starts_hold h t m r y) (present at_brace_group m) refl
   where
     in_set : (v : Bool) → mem (Delimited Brace v) (first_set start_of h) ≡ true → or (mem (Delimited Brace true) (first_set start_of h)) (mem (Delimited Brace false) (first_set start_of h)) ≡ true
     in_set true i = or_left (mem (Delimited Brace true) (first_set start_of h)) _ i
     in_set false i = or_right (mem (Delimited Brace true) (first_set start_of h)) _ i
 
-    go : Begins start_of h m r → (v : Bool) → stands at_brace_group m ≡ v → v ≡ false
+    go : Begins start_of h m r → (v : Bool) → present at_brace_group m ≡ v → v ≡ false
     go p false q = refl
     go (inl p) true q =
         let (v, f) = brace_terminal (lookahead m).terminal q in
@@ -258,7 +258,7 @@ before_form a h t m r F y e = go (begins start_of table starts_hold h t m r y) (
       where
         at : (no (nullable start_of h) ≡ true) ⊎ (a ≡ true) → true ≡ false
         at (inl n) = absurd (true≢false (sym p.0 ∙ no_true (nullable start_of h) n))
-        at (inr n) = sym q ∙ ap (stands at_brace_group) p.1 ∙ F n
+        at (inr n) = sym q ∙ ap (present at_brace_group) p.1 ∙ F n
 
 reads_nothing : (g : Grammar) (s : Syntax) (ts r : Stream) → is_empty g ≡ true → DerivesPrefix before g s ts r → ts ≡ r
 reads_nothing empty Nothing ts r e x = x
@@ -281,7 +281,7 @@ here_at b a k (l ∷ ks) ls e w = go (or_split (same_rule k l) (among k ks) e) (
 enough : (a : Bool) (k : Rule) (r : Stream) → or a (no (needs k)) ≡ true → Free a r → Free (needs k) r
 enough a k r w F e = go (or_split a (no (needs k)) w)
   where
-    go : (a ≡ true) ⊎ (no (needs k) ≡ true) → stands at_brace_group r ≡ false
+    go : (a ≡ true) ⊎ (no (needs k) ≡ true) → present at_brace_group r ≡ false
     go (inl q) = F q
     go (inr q) = absurd (true≢false (sym e ∙ no_true (needs k) q))
 
@@ -354,14 +354,14 @@ other_side g = g
 abbrev some_statements : Grammar
 some_statements = else_of (table statements)
 
-abbrev behind_semicolon : Grammar
-behind_semicolon = then_of (within some_statements)
+abbrev after_semicolon : Grammar
+after_semicolon = then_of (within some_statements)
 
 abbrev some_statement : Grammar
 some_statement = else_of (within some_statements)
 
 -- an item that was verbatim, in a list of statements, is that item
-listed_becomes : (k : Rule) (c s l : Syntax) (i ts m n r : Stream) → ts ≡ i ⧺ n → DerivesPrefix table (rule attributes) c ts m → stands at_item m ≡ true → Becomes k s m n → DerivesPrefix table (rule statements) l n r →
+listed_becomes : (k : Rule) (c s l : Syntax) (i ts m n r : Stream) → ts ≡ i ⧺ n → DerivesPrefix table (rule attributes) c ts m → present at_item m ≡ true → Becomes k s m n → DerivesPrefix table (rule statements) l n r →
     DerivesPrefix table some_statement (lift_shaped listed (Left (Both (Shaped an_item (Node (Captured (Both c (Left (Node (Case k (lift_in true s))))) i))) l))) ts r
 listed_becomes k c s l i ts m n r q x h (a_trait e y) z =
     subst (λ v. DerivesPrefix table some_statement (pick v (item_of_list c trait_definition_rest (lift_in true s) l) (pick (same_rule k const_impl) (item_of_list c impl_definition_rest (lift_in true s) l) (Shaped listed (Left (Both (Shaped an_item (Node (Captured (Both c (Left (Node (renamed k (lift_in true s))))) i))) l))))) ts r) (sym e)
@@ -376,7 +376,7 @@ listed_becomes k c s l i ts m n r q x h (a_kept e f y) z =
     (refl, (n, (refl, (q, (m, x, (h, y)))), z)))
 
 -- and alone
-lone_becomes : (k : Rule) (c s : Syntax) (i ts m r : Stream) → ts ≡ i ⧺ r → DerivesPrefix table (rule attributes) c ts m → stands at_item m ≡ true → Becomes k s m r →
+lone_becomes : (k : Rule) (c s : Syntax) (i ts m r : Stream) → ts ≡ i ⧺ r → DerivesPrefix table (rule attributes) c ts m → present at_item m ≡ true → Becomes k s m r →
     DerivesPrefix table (table statement) (lift_shaped single (Left (Shaped an_item (Node (Captured (Both c (Left (Node (Case k (lift_in true s))))) i))))) ts r
 lone_becomes k c s i ts m r q x h (a_trait e y) =
     subst (λ v. DerivesPrefix table (table statement) (pick v (item_alone c trait_definition_rest (lift_in true s)) (pick (same_rule k const_impl) (item_alone c impl_definition_rest (lift_in true s)) (Shaped single (Left (Shaped an_item (Node (Captured (Both c (Left (Node (renamed k (lift_in true s))))) i))))))) ts r) (sym e)
@@ -497,23 +497,23 @@ mutual
   grown b a (g & h) (g' & h') _ ts r e F x = elim x [ ]
   grown b a (when c then g else h) (when c' then g' else h') (Left s) ts r e F (v, x) =
       let i = same_look_eq c c' (and_left (same_look c c') _ e) in
-      (ap (λ z. stands z ts) (sym i) ∙ v, go (or_split (grows b a g g') _ (and_left (or (grows b a g g') (and (is_empty g) (and a (same_look c at_brace_group)))) _ (and_right (same_look c c') _ e))) (λ q. grown b a g g' s ts r q F x))
+      (ap (λ z. present z ts) (sym i) ∙ v, go (or_split (grows b a g g') _ (and_left (or (grows b a g g') (and (is_empty g) (and a (same_look c at_brace_group)))) _ (and_right (same_look c c') _ e))) (λ q. grown b a g g' s ts r q F x))
     where
       go : (grows b a g g' ≡ true) ⊎ (and (is_empty g) (and a (same_look c at_brace_group)) ≡ true) → (grows b a g g' ≡ true → DerivesPrefix table g' (lift_in b s) ts r) → DerivesPrefix table g' (lift_in b s) ts r
       go (inl q) k = k q
       go (inr q) k =
           let w = and_right (is_empty g) _ q in
-          absurd (true≢false (sym v ∙ ap (λ z. stands z ts) (same_look_eq c at_brace_group (and_right a _ w)) ∙ ap (stands at_brace_group) (reads_nothing g s ts r (and_left (is_empty g) _ q) x) ∙ F (and_left a _ w)))
+          absurd (true≢false (sym v ∙ ap (λ z. present z ts) (same_look_eq c at_brace_group (and_right a _ w)) ∙ ap (present at_brace_group) (reads_nothing g s ts r (and_left (is_empty g) _ q) x) ∙ F (and_left a _ w)))
   grown b a (when c then g else h) (when c' then g' else h') (Right s) ts r e F (v, x) =
       let i = same_look_eq c c' (and_left (same_look c c') _ e) in
-      (ap (λ z. stands z ts) (sym i) ∙ v, grown b a h h' s ts r (and_right (or (grows b a g g') (and (is_empty g) (and a (same_look c at_brace_group)))) _ (and_right (same_look c c') _ e)) F x)
+      (ap (λ z. present z ts) (sym i) ∙ v, grown b a h h' s ts r (and_right (or (grows b a g g') (and (is_empty g) (and a (same_look c at_brace_group)))) _ (and_right (same_look c c') _ e)) F x)
   grown b a (when c then g else h) (when c' then g' else h') _ ts r e F x = elim x [ ]
   grown b a (vanishing u c g) (vanishing u' c' g') (Vanishing d (Left s)) ts r e F (p, (v, x)) =
       let w = and_right (same_bool u u') _ e in
-      (sym (same_bool_eq u u' (and_left (same_bool u u') _ e)) ∙ p, (ap (λ z. stands z ts) (sym (same_look_eq c c' (and_left (same_look c c') _ w))) ∙ v, grown b a g g' s ts r (and_right (same_look c c') _ w) F x))
+      (sym (same_bool_eq u u' (and_left (same_bool u u') _ e)) ∙ p, (ap (λ z. present z ts) (sym (same_look_eq c c' (and_left (same_look c c') _ w))) ∙ v, grown b a g g' s ts r (and_right (same_look c c') _ w) F x))
   grown b a (vanishing u c g) (vanishing u' c' g') (Vanishing d (Right Nothing)) ts r e F (p, (v, x)) =
       let w = and_right (same_bool u u') _ e in
-      (sym (same_bool_eq u u' (and_left (same_bool u u') _ e)) ∙ p, (ap (λ z. stands z ts) (sym (same_look_eq c c' (and_left (same_look c c') _ w))) ∙ v, x))
+      (sym (same_bool_eq u u' (and_left (same_bool u u') _ e)) ∙ p, (ap (λ z. present z ts) (sym (same_look_eq c c' (and_left (same_look c c') _ w))) ∙ v, x))
   grown b a (vanishing u c g) (vanishing u' c' g') (Vanishing d (Right _)) ts r e F (p, (v, x)) = elim x [ ]
   grown b a (vanishing u c g) (vanishing u' c' g') (Vanishing d _) ts r e F (p, x) = elim x [ ]
   grown b a (vanishing u c g) (vanishing u' c' g') _ ts r e F x = elim x [ ]
@@ -557,11 +557,11 @@ mutual
   grown b a (supplied n p t) (supplied n' p' t') (Both c (Both (Mark xs) s)) ts r e F (inl (v, y, sp, d, f, pa, w, q)) =
       let i = same_fact_eq n n' (and_left (same_fact n n') _ e) in
       let e' = and_right (same_fact n n') _ e in
-      inl (ap (λ z. stands (at_unnamed z) ts) (sym i) ∙ v, y, sp, d, f, grown b false p p' c _ end (and_left (grows b false p p') _ e') (none end) pa, w, grown b a t t' s ts r (and_right (grows b false p p') _ e') F q)
+      inl (ap (λ z. present (at_unnamed z) ts) (sym i) ∙ v, y, sp, d, f, grown b false p p' c _ end (and_left (grows b false p p') _ e') (none end) pa, w, grown b a t t' s ts r (and_right (grows b false p p') _ e') F q)
   grown b a (supplied n p t) (supplied n' p' t') (Both c (Both (Mark xs) s)) ts r e F (inr (v, m, pa, f, m', d, q)) =
       let i = same_fact_eq n n' (and_left (same_fact n n') _ e) in
       let e' = and_right (same_fact n n') _ e in
-      inr (ap (λ z. stands (at_unnamed z) ts) (sym i) ∙ v, m, grown b false p p' c ts m (and_left (grows b false p p') _ e') (none m) pa, f, m', d, grown b a t t' s m' r (and_right (grows b false p p') _ e') F q)
+      inr (ap (λ z. present (at_unnamed z) ts) (sym i) ∙ v, m, grown b false p p' c ts m (and_left (grows b false p p') _ e') (none m) pa, f, m', d, grown b a t t' s m' r (and_right (grows b false p p') _ e') F q)
   grown b a (supplied n p t) (supplied n' p' t') (Both c (Both _ s)) ts r e F x = elim x [ ]
   grown b a (supplied n p t) (supplied n' p' t') (Both c _) ts r e F x = elim x [ ]
   grown b a (supplied n p t) (supplied n' p' t') _ ts r e F x = elim x [ ]
@@ -603,7 +603,7 @@ mutual
   statements_grown _ ts r F x = elim x [ ]
 
   some_grown : (s : Syntax) (ts r : Stream) → Free true r → DerivesPrefix before (within some_statements) s ts r → DerivesPrefix table (within some_statements) (lift_in true s) ts r
-  some_grown (Left t) ts r F (w, y) = (w, grown true true behind_semicolon behind_semicolon t ts r refl F y)
+  some_grown (Left t) ts r F (w, y) = (w, grown true true after_semicolon after_semicolon t ts r refl F y)
   some_grown (Right (Shaped j t)) ts r F (w, (p, y)) = (w, subst (λ z. DerivesPrefix table some_statement (lift_shaped z (lift_in true t)) ts r) p (sides_grown t ts r F y))
   some_grown (Right _) ts r F (w, x) = elim x [ ]
   some_grown _ ts r F x = elim x [ ]

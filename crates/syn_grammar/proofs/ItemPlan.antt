@@ -9,7 +9,7 @@ use Rattle.syn_grammar.specs.Table.{at_extern, at_paren, at_restriction, item_wo
 use Rattle.syn_grammar.specs.Take.{Out, Parser, sees}
 use Rattle.syn_grammar.specs.Run.{wrap, and_then, branch, first_rule, parse_rule, parse_form}
 use Rattle.syn_grammar.specs.Plan.{reads, turns}
-use Rattle.syn_grammar.specs.ItemPlan.{public, unwritten, plain, absent, inherited, at_in_restriction, at_lone_word, kept_end, function_end, signature_end, abi_and_signature, struct_plan, enum_plan, union_plan, type_plan, static_plan, use_plan, module_plan, trait_end, trait_plan, trait_or_alias, const_trait_or_alias, const_plan, definition_plan, kept_impl, impl_types, impl_generics, impl_plan, visible_impl, const_impl_plan, extern_plan, extern_crate_plan, restricted_end, bare_impl_plan, unsafe_plan, behind_const, macro_plan, other_plan, behind_visibility, item_behind, item_plan, ItemPlan}
+use Rattle.syn_grammar.specs.ItemPlan.{public, unwritten, plain, absent, inherited, at_in_restriction, at_lone_word, kept_end, function_end, signature_end, abi_and_signature, struct_plan, enum_plan, union_plan, type_plan, static_plan, use_plan, module_plan, trait_end, trait_plan, trait_or_alias, const_trait_or_alias, const_plan, definition_plan, kept_impl, impl_types, impl_generics, impl_plan, visible_impl, const_impl_plan, extern_plan, extern_crate_plan, restricted_end, bare_impl_plan, unsafe_plan, following_const, macro_plan, other_plan, after_visibility, item_after, item_plan, ItemPlan}
 use Rattle.syn_grammar.proofs.Run.{parse_rule_is}
 use Rattle.syn_grammar.proofs.Known.{Known, noted}
 use Rattle.syn_grammar.proofs.Threads.{Thread, listed, eaten, alive, Fits, fits_is, answer, answer_all, first, keep, rest, rest_wrap, onward, recog}
@@ -40,8 +40,8 @@ abbrev got : Option (Syntax → List Thread) → Syntax → List Thread
 got (Some v) s = v s
 got None s = []
 
-abbrev behind_attributes : Syntax → List Thread
-behind_attributes a = got (eaten [] (rule attributes) threads) a
+abbrev after_attributes : Syntax → List Thread
+after_attributes a = got (eaten [] (rule attributes) threads) a
 
 abbrev public_known : Known
 public_known = noted (at_word w_pub) true []
@@ -62,13 +62,13 @@ abbrev unwritten_0 : Known
 unwritten_0 = []
 
 abbrev public_threads_0 : Syntax → Syntax → List Thread
-public_threads_0 a v = got (eaten public_known (rule visibility) (alive public_known (behind_attributes a))) v
+public_threads_0 a v = got (eaten public_known (rule visibility) (alive public_known (after_attributes a))) v
 
 abbrev unwritten_threads_0 : Syntax → Syntax → List Thread
-unwritten_threads_0 a v = got (eaten unwritten_known (rule visibility) (alive unwritten_known (alive not_public (behind_attributes a)))) v
+unwritten_threads_0 a v = got (eaten unwritten_known (rule visibility) (alive unwritten_known (alive not_public (after_attributes a)))) v
 
 abbrev plain_threads_0 : Syntax → List Thread
-plain_threads_0 a = alive plain_0 (alive not_public (behind_attributes a))
+plain_threads_0 a = alive plain_0 (alive not_public (after_attributes a))
 
 abbrev public_struct : Known
 public_struct = noted (at_word w_struct) true public_0
@@ -80,7 +80,7 @@ abbrev public_threads_1 : Syntax → Syntax → List Thread
 public_threads_1 a v = alive public_1 (public_threads_0 a v)
 
 public_struct_fits : (a v : Syntax) → Fits (struct_plan a v) public_struct (alive public_struct (public_threads_0 a v))
-unfolding kept_end function_end signature_end abi_and_signature struct_plan enum_plan union_plan type_plan static_plan use_plan module_plan trait_end trait_plan trait_or_alias const_trait_or_alias const_plan definition_plan kept_impl impl_types impl_generics impl_plan visible_impl const_impl_plan extern_plan extern_crate_plan restricted_end bare_impl_plan unsafe_plan behind_const macro_plan other_plan
+unfolding kept_end function_end signature_end abi_and_signature struct_plan enum_plan union_plan type_plan static_plan use_plan module_plan trait_end trait_plan trait_or_alias const_trait_or_alias const_plan definition_plan kept_impl impl_types impl_generics impl_plan visible_impl const_impl_plan extern_plan extern_crate_plan restricted_end bare_impl_plan unsafe_plan following_const macro_plan other_plan
 public_struct_fits a v = λ k. λ n. λ g. λ b. refl
 
 abbrev public_enum : Known
@@ -93,7 +93,7 @@ abbrev public_threads_2 : Syntax → Syntax → List Thread
 public_threads_2 a v = alive public_2 (public_threads_1 a v)
 
 public_enum_fits : (a v : Syntax) → Fits (enum_plan a v) public_enum (alive public_enum (public_threads_1 a v))
-unfolding kept_end function_end signature_end abi_and_signature struct_plan enum_plan union_plan type_plan static_plan use_plan module_plan trait_end trait_plan trait_or_alias const_trait_or_alias const_plan definition_plan kept_impl impl_types impl_generics impl_plan visible_impl const_impl_plan extern_plan extern_crate_plan restricted_end bare_impl_plan unsafe_plan behind_const macro_plan other_plan
+unfolding kept_end function_end signature_end abi_and_signature struct_plan enum_plan union_plan type_plan static_plan use_plan module_plan trait_end trait_plan trait_or_alias const_trait_or_alias const_plan definition_plan kept_impl impl_types impl_generics impl_plan visible_impl const_impl_plan extern_plan extern_crate_plan restricted_end bare_impl_plan unsafe_plan following_const macro_plan other_plan
 public_enum_fits a v = λ k. λ n. λ g. λ w. λ b. refl
 
 abbrev public_union : Known
@@ -106,7 +106,7 @@ abbrev public_threads_3 : Syntax → Syntax → List Thread
 public_threads_3 a v = alive public_3 (public_threads_2 a v)
 
 public_union_fits : (a v : Syntax) → Fits (union_plan a v) public_union (alive public_union (public_threads_2 a v))
-unfolding kept_end function_end signature_end abi_and_signature struct_plan enum_plan union_plan type_plan static_plan use_plan module_plan trait_end trait_plan trait_or_alias const_trait_or_alias const_plan definition_plan kept_impl impl_types impl_generics impl_plan visible_impl const_impl_plan extern_plan extern_crate_plan restricted_end bare_impl_plan unsafe_plan behind_const macro_plan other_plan
+unfolding kept_end function_end signature_end abi_and_signature struct_plan enum_plan union_plan type_plan static_plan use_plan module_plan trait_end trait_plan trait_or_alias const_trait_or_alias const_plan definition_plan kept_impl impl_types impl_generics impl_plan visible_impl const_impl_plan extern_plan extern_crate_plan restricted_end bare_impl_plan unsafe_plan following_const macro_plan other_plan
 public_union_fits a v = λ k. λ n. λ g. λ w. λ b. refl
 
 abbrev public_type : Known
@@ -119,7 +119,7 @@ abbrev public_threads_4 : Syntax → Syntax → List Thread
 public_threads_4 a v = alive public_4 (public_threads_3 a v)
 
 public_type_fits : (a v : Syntax) → Fits (type_plan a v) public_type (alive public_type (public_threads_3 a v))
-unfolding kept_end function_end signature_end abi_and_signature struct_plan enum_plan union_plan type_plan static_plan use_plan module_plan trait_end trait_plan trait_or_alias const_trait_or_alias const_plan definition_plan kept_impl impl_types impl_generics impl_plan visible_impl const_impl_plan extern_plan extern_crate_plan restricted_end bare_impl_plan unsafe_plan behind_const macro_plan other_plan
+unfolding kept_end function_end signature_end abi_and_signature struct_plan enum_plan union_plan type_plan static_plan use_plan module_plan trait_end trait_plan trait_or_alias const_trait_or_alias const_plan definition_plan kept_impl impl_types impl_generics impl_plan visible_impl const_impl_plan extern_plan extern_crate_plan restricted_end bare_impl_plan unsafe_plan following_const macro_plan other_plan
 public_type_fits a v = λ k. λ n. λ g. ((refl, λ c. λ b. λ t. λ z. refl), λ w. (λ q. λ t. λ x. (((refl, refl), tt), (λ z. refl, tt)), (refl, λ z. refl)))
 
 abbrev public_static : Known
@@ -132,7 +132,7 @@ abbrev public_threads_5 : Syntax → Syntax → List Thread
 public_threads_5 a v = alive public_5 (public_threads_4 a v)
 
 public_static_fits : (a v : Syntax) → Fits (static_plan a v) public_static (alive public_static (public_threads_4 a v))
-unfolding kept_end function_end signature_end abi_and_signature struct_plan enum_plan union_plan type_plan static_plan use_plan module_plan trait_end trait_plan trait_or_alias const_trait_or_alias const_plan definition_plan kept_impl impl_types impl_generics impl_plan visible_impl const_impl_plan extern_plan extern_crate_plan restricted_end bare_impl_plan unsafe_plan behind_const macro_plan other_plan
+unfolding kept_end function_end signature_end abi_and_signature struct_plan enum_plan union_plan type_plan static_plan use_plan module_plan trait_end trait_plan trait_or_alias const_trait_or_alias const_plan definition_plan kept_impl impl_types impl_generics impl_plan visible_impl const_impl_plan extern_plan extern_crate_plan restricted_end bare_impl_plan unsafe_plan following_const macro_plan other_plan
 public_static_fits a v = λ k. λ u. λ n. (λ c. λ t. (λ q. λ e. λ z. refl, (refl, λ z. refl)), (refl, λ q. λ e. λ z. refl))
 
 abbrev public_use : Known
@@ -145,7 +145,7 @@ abbrev public_threads_6 : Syntax → Syntax → List Thread
 public_threads_6 a v = alive public_6 (public_threads_5 a v)
 
 public_use_fits : (a v : Syntax) → Fits (use_plan a v) public_use (alive public_use (public_threads_5 a v))
-unfolding kept_end function_end signature_end abi_and_signature struct_plan enum_plan union_plan type_plan static_plan use_plan module_plan trait_end trait_plan trait_or_alias const_trait_or_alias const_plan definition_plan kept_impl impl_types impl_generics impl_plan visible_impl const_impl_plan extern_plan extern_crate_plan restricted_end bare_impl_plan unsafe_plan behind_const macro_plan other_plan
+unfolding kept_end function_end signature_end abi_and_signature struct_plan enum_plan union_plan type_plan static_plan use_plan module_plan trait_end trait_plan trait_or_alias const_trait_or_alias const_plan definition_plan kept_impl impl_types impl_generics impl_plan visible_impl const_impl_plan extern_plan extern_crate_plan restricted_end bare_impl_plan unsafe_plan following_const macro_plan other_plan
 public_use_fits a v = λ k. (λ t. (((refl, refl), ((refl, refl), tt)), ((refl, λ z. refl), λ z. refl)), λ c. λ t. λ z. refl)
 
 abbrev public_mod : Known
@@ -158,7 +158,7 @@ abbrev public_threads_7 : Syntax → Syntax → List Thread
 public_threads_7 a v = alive public_7 (public_threads_6 a v)
 
 public_mod_fits : (a v : Syntax) → Fits (module_plan a v absent) public_mod (alive public_mod (public_threads_6 a v))
-unfolding kept_end function_end signature_end abi_and_signature struct_plan enum_plan union_plan type_plan static_plan use_plan module_plan trait_end trait_plan trait_or_alias const_trait_or_alias const_plan definition_plan kept_impl impl_types impl_generics impl_plan visible_impl const_impl_plan extern_plan extern_crate_plan restricted_end bare_impl_plan unsafe_plan behind_const macro_plan other_plan
+unfolding kept_end function_end signature_end abi_and_signature struct_plan enum_plan union_plan type_plan static_plan use_plan module_plan trait_end trait_plan trait_or_alias const_trait_or_alias const_plan definition_plan kept_impl impl_types impl_generics impl_plan visible_impl const_impl_plan extern_plan extern_crate_plan restricted_end bare_impl_plan unsafe_plan following_const macro_plan other_plan
 public_mod_fits a v = λ k. λ n. (λ z. refl, λ b. refl)
 
 abbrev public_trait : Known
@@ -171,7 +171,7 @@ abbrev public_threads_8 : Syntax → Syntax → List Thread
 public_threads_8 a v = alive public_8 (public_threads_7 a v)
 
 public_trait_fits : (a v : Syntax) → Fits (trait_or_alias a v) public_trait (alive public_trait (public_threads_7 a v))
-unfolding kept_end function_end signature_end abi_and_signature struct_plan enum_plan union_plan type_plan static_plan use_plan module_plan trait_end trait_plan trait_or_alias const_trait_or_alias const_plan definition_plan kept_impl impl_types impl_generics impl_plan visible_impl const_impl_plan extern_plan extern_crate_plan restricted_end bare_impl_plan unsafe_plan behind_const macro_plan other_plan
+unfolding kept_end function_end signature_end abi_and_signature struct_plan enum_plan union_plan type_plan static_plan use_plan module_plan trait_end trait_plan trait_or_alias const_trait_or_alias const_plan definition_plan kept_impl impl_types impl_generics impl_plan visible_impl const_impl_plan extern_plan extern_crate_plan restricted_end bare_impl_plan unsafe_plan following_const macro_plan other_plan
 public_trait_fits a v = λ k. λ n. λ g. (λ q. λ b. λ w. λ z. refl, λ b. λ w. λ m. refl)
 
 abbrev public_auto : Known
@@ -184,7 +184,7 @@ abbrev public_threads_9 : Syntax → Syntax → List Thread
 public_threads_9 a v = alive public_9 (public_threads_8 a v)
 
 public_auto_fits : (a v : Syntax) → Fits (trait_plan a v absent absent) public_auto (alive public_auto (public_threads_8 a v))
-unfolding kept_end function_end signature_end abi_and_signature struct_plan enum_plan union_plan type_plan static_plan use_plan module_plan trait_end trait_plan trait_or_alias const_trait_or_alias const_plan definition_plan kept_impl impl_types impl_generics impl_plan visible_impl const_impl_plan extern_plan extern_crate_plan restricted_end bare_impl_plan unsafe_plan behind_const macro_plan other_plan
+unfolding kept_end function_end signature_end abi_and_signature struct_plan enum_plan union_plan type_plan static_plan use_plan module_plan trait_end trait_plan trait_or_alias const_trait_or_alias const_plan definition_plan kept_impl impl_types impl_generics impl_plan visible_impl const_impl_plan extern_plan extern_crate_plan restricted_end bare_impl_plan unsafe_plan following_const macro_plan other_plan
 public_auto_fits a v = λ o. λ k. λ n. λ g. λ b. λ w. λ m. refl
 
 abbrev public_macro : Known
@@ -197,7 +197,7 @@ abbrev public_threads_10 : Syntax → Syntax → List Thread
 public_threads_10 a v = alive public_10 (public_threads_9 a v)
 
 public_macro_fits : (a v : Syntax) → Fits (definition_plan) public_macro (alive public_macro (public_threads_9 a v))
-unfolding kept_end function_end signature_end abi_and_signature struct_plan enum_plan union_plan type_plan static_plan use_plan module_plan trait_end trait_plan trait_or_alias const_trait_or_alias const_plan definition_plan kept_impl impl_types impl_generics impl_plan visible_impl const_impl_plan extern_plan extern_crate_plan restricted_end bare_impl_plan unsafe_plan behind_const macro_plan other_plan
+unfolding kept_end function_end signature_end abi_and_signature struct_plan enum_plan union_plan type_plan static_plan use_plan module_plan trait_end trait_plan trait_or_alias const_trait_or_alias const_plan definition_plan kept_impl impl_types impl_generics impl_plan visible_impl const_impl_plan extern_plan extern_crate_plan restricted_end bare_impl_plan unsafe_plan following_const macro_plan other_plan
 public_macro_fits a v = (refl, λ k. λ n. λ p. λ b. refl)
 
 abbrev public_fn : Known
@@ -210,7 +210,7 @@ abbrev public_threads_11 : Syntax → Syntax → List Thread
 public_threads_11 a v = alive public_11 (public_threads_10 a v)
 
 public_fn_fits : (a v : Syntax) → Fits (reads (rule signature) λ s. function_end a v s) public_fn (alive public_fn (public_threads_10 a v))
-unfolding kept_end function_end signature_end abi_and_signature struct_plan enum_plan union_plan type_plan static_plan use_plan module_plan trait_end trait_plan trait_or_alias const_trait_or_alias const_plan definition_plan kept_impl impl_types impl_generics impl_plan visible_impl const_impl_plan extern_plan extern_crate_plan restricted_end bare_impl_plan unsafe_plan behind_const macro_plan other_plan
+unfolding kept_end function_end signature_end abi_and_signature struct_plan enum_plan union_plan type_plan static_plan use_plan module_plan trait_end trait_plan trait_or_alias const_trait_or_alias const_plan definition_plan kept_impl impl_types impl_generics impl_plan visible_impl const_impl_plan extern_plan extern_crate_plan restricted_end bare_impl_plan unsafe_plan following_const macro_plan other_plan
 public_fn_fits a v = λ s. ((refl, λ z. refl), λ b. refl)
 
 abbrev public_extern : Known
@@ -225,7 +225,7 @@ public_threads_12 a v = alive public_12 (public_threads_11 a v)
 public_extern_fits : (a v : Syntax) → Fits (reads (plainly (word w_extern)) λ e.
     turns (at_word w_crate) (extern_crate_plan a v e)
     (extern_plan public a v absent (Node absent) e)) public_extern (alive public_extern (public_threads_11 a v))
-unfolding kept_end function_end signature_end abi_and_signature struct_plan enum_plan union_plan type_plan static_plan use_plan module_plan trait_end trait_plan trait_or_alias const_trait_or_alias const_plan definition_plan kept_impl impl_types impl_generics impl_plan visible_impl const_impl_plan extern_plan extern_crate_plan restricted_end bare_impl_plan unsafe_plan behind_const macro_plan other_plan
+unfolding kept_end function_end signature_end abi_and_signature struct_plan enum_plan union_plan type_plan static_plan use_plan module_plan trait_end trait_plan trait_or_alias const_trait_or_alias const_plan definition_plan kept_impl impl_types impl_generics impl_plan visible_impl const_impl_plan extern_plan extern_crate_plan restricted_end bare_impl_plan unsafe_plan following_const macro_plan other_plan
 public_extern_fits a v = λ e. (λ k. λ n. λ r. λ z. refl, λ l. λ s. ((refl, λ z. refl), λ b. refl))
 
 abbrev public_unsafe : Known
@@ -241,7 +241,7 @@ public_unsafe_fits : (a v : Syntax) → Fits (reads (item_word w_unsafe) λ u.
     turns (at_word w_mod) (module_plan a v (Left u))
     (turns (at_word w_trait or_else at_word w_auto) (trait_plan a v absent (Left u))
     (unsafe_plan public a v u))) public_unsafe (alive public_unsafe (public_threads_12 a v))
-unfolding kept_end function_end signature_end abi_and_signature struct_plan enum_plan union_plan type_plan static_plan use_plan module_plan trait_end trait_plan trait_or_alias const_trait_or_alias const_plan definition_plan kept_impl impl_types impl_generics impl_plan visible_impl const_impl_plan extern_plan extern_crate_plan restricted_end bare_impl_plan unsafe_plan behind_const macro_plan other_plan
+unfolding kept_end function_end signature_end abi_and_signature struct_plan enum_plan union_plan type_plan static_plan use_plan module_plan trait_end trait_plan trait_or_alias const_trait_or_alias const_plan definition_plan kept_impl impl_types impl_generics impl_plan visible_impl const_impl_plan extern_plan extern_crate_plan restricted_end bare_impl_plan unsafe_plan following_const macro_plan other_plan
 public_unsafe_fits a v = λ u. (λ k. λ n. (λ z. refl, λ b. refl), (λ o. λ k. λ n. λ g. λ b. λ w. λ m. refl, (λ e. λ l. λ s. ((refl, λ z. refl), λ b. refl), λ s. ((refl, λ z. refl), λ b. refl))))
 
 abbrev public_const : Known
@@ -253,8 +253,8 @@ public_14 = noted (at_word w_const) false public_13
 abbrev public_threads_14 : Syntax → Syntax → List Thread
 public_threads_14 a v = alive public_14 (public_threads_13 a v)
 
-public_const_fits : (a v : Syntax) → Fits (reads (item_word w_const) λ c. behind_const public a v c) public_const (alive public_const (public_threads_13 a v))
-unfolding kept_end function_end signature_end abi_and_signature struct_plan enum_plan union_plan type_plan static_plan use_plan module_plan trait_end trait_plan trait_or_alias const_trait_or_alias const_plan definition_plan kept_impl impl_types impl_generics impl_plan visible_impl const_impl_plan extern_plan extern_crate_plan restricted_end bare_impl_plan unsafe_plan behind_const macro_plan other_plan
+public_const_fits : (a v : Syntax) → Fits (reads (item_word w_const) λ c. following_const public a v c) public_const (alive public_const (public_threads_13 a v))
+unfolding kept_end function_end signature_end abi_and_signature struct_plan enum_plan union_plan type_plan static_plan use_plan module_plan trait_end trait_plan trait_or_alias const_trait_or_alias const_plan definition_plan kept_impl impl_types impl_generics impl_plan visible_impl const_impl_plan extern_plan extern_crate_plan restricted_end bare_impl_plan unsafe_plan following_const macro_plan other_plan
 public_const_fits a v = λ c. (λ u. (λ o. λ k. λ n. λ g. λ b. λ w. λ m. refl, ((refl, λ k. λ g. (λ x. (λ b. refl, λ t. λ f. λ b. refl), λ t. λ f. λ b. refl)), λ e. λ s. ((refl, λ z. refl), λ b. refl))), (λ k. λ n. λ g. ((refl, λ q. λ b. λ w. λ z. refl), λ b. λ w. λ m. refl), (λ o. λ k. λ n. λ g. λ b. λ w. λ m. refl, ((refl, λ k. λ g. (λ x. (λ b. refl, λ t. λ f. λ b. refl), λ t. λ f. λ b. refl)), (λ y. λ u. λ e. λ s. ((refl, λ z. refl), λ b. refl), λ n. ((refl, λ g. λ c. λ t. λ e. λ w. λ z. refl), λ c. λ t. (λ q. λ e. (λ z. refl, (refl, λ w. λ z. refl)), (refl, λ w. λ z. refl))))))))
 
 abbrev public_impl : Known
@@ -267,15 +267,15 @@ abbrev public_threads_15 : Syntax → Syntax → List Thread
 public_threads_15 a v = alive public_15 (public_threads_14 a v)
 
 public_impl_fits : (a v : Syntax) → Fits (bare_impl_plan public a) public_impl (alive public_impl (public_threads_14 a v))
-unfolding kept_end function_end signature_end abi_and_signature struct_plan enum_plan union_plan type_plan static_plan use_plan module_plan trait_end trait_plan trait_or_alias const_trait_or_alias const_plan definition_plan kept_impl impl_types impl_generics impl_plan visible_impl const_impl_plan extern_plan extern_crate_plan restricted_end bare_impl_plan unsafe_plan behind_const macro_plan other_plan
+unfolding kept_end function_end signature_end abi_and_signature struct_plan enum_plan union_plan type_plan static_plan use_plan module_plan trait_end trait_plan trait_or_alias const_trait_or_alias const_plan definition_plan kept_impl impl_types impl_generics impl_plan visible_impl const_impl_plan extern_plan extern_crate_plan restricted_end bare_impl_plan unsafe_plan following_const macro_plan other_plan
 public_impl_fits a v = (refl, λ k. (λ r. λ c. λ t. refl, (λ t. λ c. λ t. refl, tt)))
 
 public_other_fits : (a v : Syntax) → Fits (other_plan public a) public_15 (public_threads_15 a v)
-unfolding kept_end function_end signature_end abi_and_signature struct_plan enum_plan union_plan type_plan static_plan use_plan module_plan trait_end trait_plan trait_or_alias const_trait_or_alias const_plan definition_plan kept_impl impl_types impl_generics impl_plan visible_impl const_impl_plan extern_plan extern_crate_plan restricted_end bare_impl_plan unsafe_plan behind_const macro_plan other_plan
+unfolding kept_end function_end signature_end abi_and_signature struct_plan enum_plan union_plan type_plan static_plan use_plan module_plan trait_end trait_plan trait_or_alias const_trait_or_alias const_plan definition_plan kept_impl impl_types impl_generics impl_plan visible_impl const_impl_plan extern_plan extern_crate_plan restricted_end bare_impl_plan unsafe_plan following_const macro_plan other_plan
 public_other_fits a v = tt
 
-public_fits : (a v : Syntax) → Fits (behind_visibility public a v) public_0 (public_threads_0 a v)
-unfolding behind_visibility
+public_fits : (a v : Syntax) → Fits (after_visibility public a v) public_0 (public_threads_0 a v)
+unfolding after_visibility
 public_fits a v = (public_struct_fits a v, (public_enum_fits a v, (public_union_fits a v, (public_type_fits a v, (public_static_fits a v, (public_use_fits a v, (public_mod_fits a v, (public_trait_fits a v, (public_auto_fits a v, (public_macro_fits a v, (public_fn_fits a v, (public_extern_fits a v, (public_unsafe_fits a v, (public_const_fits a v, (public_impl_fits a v, public_other_fits a v)))))))))))))))
 
 abbrev unwritten_struct : Known
@@ -288,7 +288,7 @@ abbrev unwritten_threads_1 : Syntax → Syntax → List Thread
 unwritten_threads_1 a v = alive unwritten_1 (unwritten_threads_0 a v)
 
 unwritten_struct_fits : (a v : Syntax) → Fits (struct_plan a v) unwritten_struct (alive unwritten_struct (unwritten_threads_0 a v))
-unfolding kept_end function_end signature_end abi_and_signature struct_plan enum_plan union_plan type_plan static_plan use_plan module_plan trait_end trait_plan trait_or_alias const_trait_or_alias const_plan definition_plan kept_impl impl_types impl_generics impl_plan visible_impl const_impl_plan extern_plan extern_crate_plan restricted_end bare_impl_plan unsafe_plan behind_const macro_plan other_plan
+unfolding kept_end function_end signature_end abi_and_signature struct_plan enum_plan union_plan type_plan static_plan use_plan module_plan trait_end trait_plan trait_or_alias const_trait_or_alias const_plan definition_plan kept_impl impl_types impl_generics impl_plan visible_impl const_impl_plan extern_plan extern_crate_plan restricted_end bare_impl_plan unsafe_plan following_const macro_plan other_plan
 unwritten_struct_fits a v = λ k. λ n. λ g. λ b. refl
 
 abbrev unwritten_enum : Known
@@ -301,7 +301,7 @@ abbrev unwritten_threads_2 : Syntax → Syntax → List Thread
 unwritten_threads_2 a v = alive unwritten_2 (unwritten_threads_1 a v)
 
 unwritten_enum_fits : (a v : Syntax) → Fits (enum_plan a v) unwritten_enum (alive unwritten_enum (unwritten_threads_1 a v))
-unfolding kept_end function_end signature_end abi_and_signature struct_plan enum_plan union_plan type_plan static_plan use_plan module_plan trait_end trait_plan trait_or_alias const_trait_or_alias const_plan definition_plan kept_impl impl_types impl_generics impl_plan visible_impl const_impl_plan extern_plan extern_crate_plan restricted_end bare_impl_plan unsafe_plan behind_const macro_plan other_plan
+unfolding kept_end function_end signature_end abi_and_signature struct_plan enum_plan union_plan type_plan static_plan use_plan module_plan trait_end trait_plan trait_or_alias const_trait_or_alias const_plan definition_plan kept_impl impl_types impl_generics impl_plan visible_impl const_impl_plan extern_plan extern_crate_plan restricted_end bare_impl_plan unsafe_plan following_const macro_plan other_plan
 unwritten_enum_fits a v = λ k. λ n. λ g. λ w. λ b. refl
 
 abbrev unwritten_union : Known
@@ -314,7 +314,7 @@ abbrev unwritten_threads_3 : Syntax → Syntax → List Thread
 unwritten_threads_3 a v = alive unwritten_3 (unwritten_threads_2 a v)
 
 unwritten_union_fits : (a v : Syntax) → Fits (union_plan a v) unwritten_union (alive unwritten_union (unwritten_threads_2 a v))
-unfolding kept_end function_end signature_end abi_and_signature struct_plan enum_plan union_plan type_plan static_plan use_plan module_plan trait_end trait_plan trait_or_alias const_trait_or_alias const_plan definition_plan kept_impl impl_types impl_generics impl_plan visible_impl const_impl_plan extern_plan extern_crate_plan restricted_end bare_impl_plan unsafe_plan behind_const macro_plan other_plan
+unfolding kept_end function_end signature_end abi_and_signature struct_plan enum_plan union_plan type_plan static_plan use_plan module_plan trait_end trait_plan trait_or_alias const_trait_or_alias const_plan definition_plan kept_impl impl_types impl_generics impl_plan visible_impl const_impl_plan extern_plan extern_crate_plan restricted_end bare_impl_plan unsafe_plan following_const macro_plan other_plan
 unwritten_union_fits a v = λ k. λ n. λ g. λ w. λ b. refl
 
 abbrev unwritten_type : Known
@@ -327,7 +327,7 @@ abbrev unwritten_threads_4 : Syntax → Syntax → List Thread
 unwritten_threads_4 a v = alive unwritten_4 (unwritten_threads_3 a v)
 
 unwritten_type_fits : (a v : Syntax) → Fits (type_plan a v) unwritten_type (alive unwritten_type (unwritten_threads_3 a v))
-unfolding kept_end function_end signature_end abi_and_signature struct_plan enum_plan union_plan type_plan static_plan use_plan module_plan trait_end trait_plan trait_or_alias const_trait_or_alias const_plan definition_plan kept_impl impl_types impl_generics impl_plan visible_impl const_impl_plan extern_plan extern_crate_plan restricted_end bare_impl_plan unsafe_plan behind_const macro_plan other_plan
+unfolding kept_end function_end signature_end abi_and_signature struct_plan enum_plan union_plan type_plan static_plan use_plan module_plan trait_end trait_plan trait_or_alias const_trait_or_alias const_plan definition_plan kept_impl impl_types impl_generics impl_plan visible_impl const_impl_plan extern_plan extern_crate_plan restricted_end bare_impl_plan unsafe_plan following_const macro_plan other_plan
 unwritten_type_fits a v = λ k. λ n. λ g. ((refl, λ c. λ b. λ t. λ z. refl), λ w. (λ q. λ t. λ x. (((refl, refl), tt), (λ z. refl, tt)), (refl, λ z. refl)))
 
 abbrev unwritten_static : Known
@@ -340,7 +340,7 @@ abbrev unwritten_threads_5 : Syntax → Syntax → List Thread
 unwritten_threads_5 a v = alive unwritten_5 (unwritten_threads_4 a v)
 
 unwritten_static_fits : (a v : Syntax) → Fits (static_plan a v) unwritten_static (alive unwritten_static (unwritten_threads_4 a v))
-unfolding kept_end function_end signature_end abi_and_signature struct_plan enum_plan union_plan type_plan static_plan use_plan module_plan trait_end trait_plan trait_or_alias const_trait_or_alias const_plan definition_plan kept_impl impl_types impl_generics impl_plan visible_impl const_impl_plan extern_plan extern_crate_plan restricted_end bare_impl_plan unsafe_plan behind_const macro_plan other_plan
+unfolding kept_end function_end signature_end abi_and_signature struct_plan enum_plan union_plan type_plan static_plan use_plan module_plan trait_end trait_plan trait_or_alias const_trait_or_alias const_plan definition_plan kept_impl impl_types impl_generics impl_plan visible_impl const_impl_plan extern_plan extern_crate_plan restricted_end bare_impl_plan unsafe_plan following_const macro_plan other_plan
 unwritten_static_fits a v = λ k. λ u. λ n. (λ c. λ t. (λ q. λ e. λ z. refl, (refl, λ z. refl)), (refl, λ q. λ e. λ z. refl))
 
 abbrev unwritten_use : Known
@@ -353,7 +353,7 @@ abbrev unwritten_threads_6 : Syntax → Syntax → List Thread
 unwritten_threads_6 a v = alive unwritten_6 (unwritten_threads_5 a v)
 
 unwritten_use_fits : (a v : Syntax) → Fits (use_plan a v) unwritten_use (alive unwritten_use (unwritten_threads_5 a v))
-unfolding kept_end function_end signature_end abi_and_signature struct_plan enum_plan union_plan type_plan static_plan use_plan module_plan trait_end trait_plan trait_or_alias const_trait_or_alias const_plan definition_plan kept_impl impl_types impl_generics impl_plan visible_impl const_impl_plan extern_plan extern_crate_plan restricted_end bare_impl_plan unsafe_plan behind_const macro_plan other_plan
+unfolding kept_end function_end signature_end abi_and_signature struct_plan enum_plan union_plan type_plan static_plan use_plan module_plan trait_end trait_plan trait_or_alias const_trait_or_alias const_plan definition_plan kept_impl impl_types impl_generics impl_plan visible_impl const_impl_plan extern_plan extern_crate_plan restricted_end bare_impl_plan unsafe_plan following_const macro_plan other_plan
 unwritten_use_fits a v = λ k. (λ t. (((refl, refl), ((refl, refl), tt)), ((refl, λ z. refl), λ z. refl)), λ c. λ t. λ z. refl)
 
 abbrev unwritten_mod : Known
@@ -366,7 +366,7 @@ abbrev unwritten_threads_7 : Syntax → Syntax → List Thread
 unwritten_threads_7 a v = alive unwritten_7 (unwritten_threads_6 a v)
 
 unwritten_mod_fits : (a v : Syntax) → Fits (module_plan a v absent) unwritten_mod (alive unwritten_mod (unwritten_threads_6 a v))
-unfolding kept_end function_end signature_end abi_and_signature struct_plan enum_plan union_plan type_plan static_plan use_plan module_plan trait_end trait_plan trait_or_alias const_trait_or_alias const_plan definition_plan kept_impl impl_types impl_generics impl_plan visible_impl const_impl_plan extern_plan extern_crate_plan restricted_end bare_impl_plan unsafe_plan behind_const macro_plan other_plan
+unfolding kept_end function_end signature_end abi_and_signature struct_plan enum_plan union_plan type_plan static_plan use_plan module_plan trait_end trait_plan trait_or_alias const_trait_or_alias const_plan definition_plan kept_impl impl_types impl_generics impl_plan visible_impl const_impl_plan extern_plan extern_crate_plan restricted_end bare_impl_plan unsafe_plan following_const macro_plan other_plan
 unwritten_mod_fits a v = λ k. λ n. (λ z. refl, λ b. refl)
 
 abbrev unwritten_trait : Known
@@ -379,7 +379,7 @@ abbrev unwritten_threads_8 : Syntax → Syntax → List Thread
 unwritten_threads_8 a v = alive unwritten_8 (unwritten_threads_7 a v)
 
 unwritten_trait_fits : (a v : Syntax) → Fits (trait_or_alias a v) unwritten_trait (alive unwritten_trait (unwritten_threads_7 a v))
-unfolding kept_end function_end signature_end abi_and_signature struct_plan enum_plan union_plan type_plan static_plan use_plan module_plan trait_end trait_plan trait_or_alias const_trait_or_alias const_plan definition_plan kept_impl impl_types impl_generics impl_plan visible_impl const_impl_plan extern_plan extern_crate_plan restricted_end bare_impl_plan unsafe_plan behind_const macro_plan other_plan
+unfolding kept_end function_end signature_end abi_and_signature struct_plan enum_plan union_plan type_plan static_plan use_plan module_plan trait_end trait_plan trait_or_alias const_trait_or_alias const_plan definition_plan kept_impl impl_types impl_generics impl_plan visible_impl const_impl_plan extern_plan extern_crate_plan restricted_end bare_impl_plan unsafe_plan following_const macro_plan other_plan
 unwritten_trait_fits a v = λ k. λ n. λ g. (λ q. λ b. λ w. λ z. refl, λ b. λ w. λ m. refl)
 
 abbrev unwritten_auto : Known
@@ -392,7 +392,7 @@ abbrev unwritten_threads_9 : Syntax → Syntax → List Thread
 unwritten_threads_9 a v = alive unwritten_9 (unwritten_threads_8 a v)
 
 unwritten_auto_fits : (a v : Syntax) → Fits (trait_plan a v absent absent) unwritten_auto (alive unwritten_auto (unwritten_threads_8 a v))
-unfolding kept_end function_end signature_end abi_and_signature struct_plan enum_plan union_plan type_plan static_plan use_plan module_plan trait_end trait_plan trait_or_alias const_trait_or_alias const_plan definition_plan kept_impl impl_types impl_generics impl_plan visible_impl const_impl_plan extern_plan extern_crate_plan restricted_end bare_impl_plan unsafe_plan behind_const macro_plan other_plan
+unfolding kept_end function_end signature_end abi_and_signature struct_plan enum_plan union_plan type_plan static_plan use_plan module_plan trait_end trait_plan trait_or_alias const_trait_or_alias const_plan definition_plan kept_impl impl_types impl_generics impl_plan visible_impl const_impl_plan extern_plan extern_crate_plan restricted_end bare_impl_plan unsafe_plan following_const macro_plan other_plan
 unwritten_auto_fits a v = λ o. λ k. λ n. λ g. λ b. λ w. λ m. refl
 
 abbrev unwritten_macro : Known
@@ -405,7 +405,7 @@ abbrev unwritten_threads_10 : Syntax → Syntax → List Thread
 unwritten_threads_10 a v = alive unwritten_10 (unwritten_threads_9 a v)
 
 unwritten_macro_fits : (a v : Syntax) → Fits (definition_plan) unwritten_macro (alive unwritten_macro (unwritten_threads_9 a v))
-unfolding kept_end function_end signature_end abi_and_signature struct_plan enum_plan union_plan type_plan static_plan use_plan module_plan trait_end trait_plan trait_or_alias const_trait_or_alias const_plan definition_plan kept_impl impl_types impl_generics impl_plan visible_impl const_impl_plan extern_plan extern_crate_plan restricted_end bare_impl_plan unsafe_plan behind_const macro_plan other_plan
+unfolding kept_end function_end signature_end abi_and_signature struct_plan enum_plan union_plan type_plan static_plan use_plan module_plan trait_end trait_plan trait_or_alias const_trait_or_alias const_plan definition_plan kept_impl impl_types impl_generics impl_plan visible_impl const_impl_plan extern_plan extern_crate_plan restricted_end bare_impl_plan unsafe_plan following_const macro_plan other_plan
 unwritten_macro_fits a v = (refl, λ k. λ n. λ p. λ b. refl)
 
 abbrev unwritten_fn : Known
@@ -418,7 +418,7 @@ abbrev unwritten_threads_11 : Syntax → Syntax → List Thread
 unwritten_threads_11 a v = alive unwritten_11 (unwritten_threads_10 a v)
 
 unwritten_fn_fits : (a v : Syntax) → Fits (reads (rule signature) λ s. function_end a v s) unwritten_fn (alive unwritten_fn (unwritten_threads_10 a v))
-unfolding kept_end function_end signature_end abi_and_signature struct_plan enum_plan union_plan type_plan static_plan use_plan module_plan trait_end trait_plan trait_or_alias const_trait_or_alias const_plan definition_plan kept_impl impl_types impl_generics impl_plan visible_impl const_impl_plan extern_plan extern_crate_plan restricted_end bare_impl_plan unsafe_plan behind_const macro_plan other_plan
+unfolding kept_end function_end signature_end abi_and_signature struct_plan enum_plan union_plan type_plan static_plan use_plan module_plan trait_end trait_plan trait_or_alias const_trait_or_alias const_plan definition_plan kept_impl impl_types impl_generics impl_plan visible_impl const_impl_plan extern_plan extern_crate_plan restricted_end bare_impl_plan unsafe_plan following_const macro_plan other_plan
 unwritten_fn_fits a v = λ s. ((refl, λ z. refl), λ b. refl)
 
 abbrev unwritten_extern : Known
@@ -433,7 +433,7 @@ unwritten_threads_12 a v = alive unwritten_12 (unwritten_threads_11 a v)
 unwritten_extern_fits : (a v : Syntax) → Fits (reads (plainly (word w_extern)) λ e.
     turns (at_word w_crate) (extern_crate_plan a v e)
     (extern_plan unwritten a v absent (Node absent) e)) unwritten_extern (alive unwritten_extern (unwritten_threads_11 a v))
-unfolding kept_end function_end signature_end abi_and_signature struct_plan enum_plan union_plan type_plan static_plan use_plan module_plan trait_end trait_plan trait_or_alias const_trait_or_alias const_plan definition_plan kept_impl impl_types impl_generics impl_plan visible_impl const_impl_plan extern_plan extern_crate_plan restricted_end bare_impl_plan unsafe_plan behind_const macro_plan other_plan
+unfolding kept_end function_end signature_end abi_and_signature struct_plan enum_plan union_plan type_plan static_plan use_plan module_plan trait_end trait_plan trait_or_alias const_trait_or_alias const_plan definition_plan kept_impl impl_types impl_generics impl_plan visible_impl const_impl_plan extern_plan extern_crate_plan restricted_end bare_impl_plan unsafe_plan following_const macro_plan other_plan
 unwritten_extern_fits a v = λ e. (λ k. λ n. λ r. λ z. refl, λ l. λ s. ((refl, λ z. refl), λ b. refl))
 
 abbrev unwritten_unsafe : Known
@@ -449,7 +449,7 @@ unwritten_unsafe_fits : (a v : Syntax) → Fits (reads (item_word w_unsafe) λ u
     turns (at_word w_mod) (module_plan a v (Left u))
     (turns (at_word w_trait or_else at_word w_auto) (trait_plan a v absent (Left u))
     (unsafe_plan unwritten a v u))) unwritten_unsafe (alive unwritten_unsafe (unwritten_threads_12 a v))
-unfolding kept_end function_end signature_end abi_and_signature struct_plan enum_plan union_plan type_plan static_plan use_plan module_plan trait_end trait_plan trait_or_alias const_trait_or_alias const_plan definition_plan kept_impl impl_types impl_generics impl_plan visible_impl const_impl_plan extern_plan extern_crate_plan restricted_end bare_impl_plan unsafe_plan behind_const macro_plan other_plan
+unfolding kept_end function_end signature_end abi_and_signature struct_plan enum_plan union_plan type_plan static_plan use_plan module_plan trait_end trait_plan trait_or_alias const_trait_or_alias const_plan definition_plan kept_impl impl_types impl_generics impl_plan visible_impl const_impl_plan extern_plan extern_crate_plan restricted_end bare_impl_plan unsafe_plan following_const macro_plan other_plan
 unwritten_unsafe_fits a v = λ u. (λ k. λ n. (λ z. refl, λ b. refl), (λ o. λ k. λ n. λ g. λ b. λ w. λ m. refl, (λ e. λ l. λ s. ((refl, λ z. refl), λ b. refl), λ s. ((refl, λ z. refl), λ b. refl))))
 
 abbrev unwritten_const : Known
@@ -461,8 +461,8 @@ unwritten_14 = noted (at_word w_const) false unwritten_13
 abbrev unwritten_threads_14 : Syntax → Syntax → List Thread
 unwritten_threads_14 a v = alive unwritten_14 (unwritten_threads_13 a v)
 
-unwritten_const_fits : (a v : Syntax) → Fits (reads (item_word w_const) λ c. behind_const unwritten a v c) unwritten_const (alive unwritten_const (unwritten_threads_13 a v))
-unfolding kept_end function_end signature_end abi_and_signature struct_plan enum_plan union_plan type_plan static_plan use_plan module_plan trait_end trait_plan trait_or_alias const_trait_or_alias const_plan definition_plan kept_impl impl_types impl_generics impl_plan visible_impl const_impl_plan extern_plan extern_crate_plan restricted_end bare_impl_plan unsafe_plan behind_const macro_plan other_plan
+unwritten_const_fits : (a v : Syntax) → Fits (reads (item_word w_const) λ c. following_const unwritten a v c) unwritten_const (alive unwritten_const (unwritten_threads_13 a v))
+unfolding kept_end function_end signature_end abi_and_signature struct_plan enum_plan union_plan type_plan static_plan use_plan module_plan trait_end trait_plan trait_or_alias const_trait_or_alias const_plan definition_plan kept_impl impl_types impl_generics impl_plan visible_impl const_impl_plan extern_plan extern_crate_plan restricted_end bare_impl_plan unsafe_plan following_const macro_plan other_plan
 unwritten_const_fits a v = λ c. (λ u. (λ o. λ k. λ n. λ g. λ b. λ w. λ m. refl, (tt, λ e. λ s. ((refl, λ z. refl), λ b. refl))), (λ k. λ n. λ g. ((refl, λ q. λ b. λ w. λ z. refl), λ b. λ w. λ m. refl), (λ o. λ k. λ n. λ g. λ b. λ w. λ m. refl, (tt, (λ y. λ u. λ e. λ s. ((refl, λ z. refl), λ b. refl), λ n. ((refl, λ g. λ c. λ t. λ e. λ w. λ z. refl), λ c. λ t. (λ q. λ e. (λ z. refl, (refl, λ w. λ z. refl)), (refl, λ w. λ z. refl))))))))
 
 abbrev unwritten_impl : Known
@@ -475,15 +475,15 @@ abbrev unwritten_threads_15 : Syntax → Syntax → List Thread
 unwritten_threads_15 a v = alive unwritten_15 (unwritten_threads_14 a v)
 
 unwritten_impl_fits : (a v : Syntax) → Fits (bare_impl_plan unwritten a) unwritten_impl (alive unwritten_impl (unwritten_threads_14 a v))
-unfolding kept_end function_end signature_end abi_and_signature struct_plan enum_plan union_plan type_plan static_plan use_plan module_plan trait_end trait_plan trait_or_alias const_trait_or_alias const_plan definition_plan kept_impl impl_types impl_generics impl_plan visible_impl const_impl_plan extern_plan extern_crate_plan restricted_end bare_impl_plan unsafe_plan behind_const macro_plan other_plan
+unfolding kept_end function_end signature_end abi_and_signature struct_plan enum_plan union_plan type_plan static_plan use_plan module_plan trait_end trait_plan trait_or_alias const_trait_or_alias const_plan definition_plan kept_impl impl_types impl_generics impl_plan visible_impl const_impl_plan extern_plan extern_crate_plan restricted_end bare_impl_plan unsafe_plan following_const macro_plan other_plan
 unwritten_impl_fits a v = (refl, λ k. (λ r. λ c. λ t. refl, (λ t. λ c. λ t. refl, tt)))
 
 unwritten_other_fits : (a v : Syntax) → Fits (other_plan unwritten a) unwritten_15 (unwritten_threads_15 a v)
-unfolding kept_end function_end signature_end abi_and_signature struct_plan enum_plan union_plan type_plan static_plan use_plan module_plan trait_end trait_plan trait_or_alias const_trait_or_alias const_plan definition_plan kept_impl impl_types impl_generics impl_plan visible_impl const_impl_plan extern_plan extern_crate_plan restricted_end bare_impl_plan unsafe_plan behind_const macro_plan other_plan
+unfolding kept_end function_end signature_end abi_and_signature struct_plan enum_plan union_plan type_plan static_plan use_plan module_plan trait_end trait_plan trait_or_alias const_trait_or_alias const_plan definition_plan kept_impl impl_types impl_generics impl_plan visible_impl const_impl_plan extern_plan extern_crate_plan restricted_end bare_impl_plan unsafe_plan following_const macro_plan other_plan
 unwritten_other_fits a v = tt
 
-unwritten_fits : (a v : Syntax) → Fits (behind_visibility unwritten a v) unwritten_0 (unwritten_threads_0 a v)
-unfolding behind_visibility
+unwritten_fits : (a v : Syntax) → Fits (after_visibility unwritten a v) unwritten_0 (unwritten_threads_0 a v)
+unfolding after_visibility
 unwritten_fits a v = (unwritten_struct_fits a v, (unwritten_enum_fits a v, (unwritten_union_fits a v, (unwritten_type_fits a v, (unwritten_static_fits a v, (unwritten_use_fits a v, (unwritten_mod_fits a v, (unwritten_trait_fits a v, (unwritten_auto_fits a v, (unwritten_macro_fits a v, (unwritten_fn_fits a v, (unwritten_extern_fits a v, (unwritten_unsafe_fits a v, (unwritten_const_fits a v, (unwritten_impl_fits a v, unwritten_other_fits a v)))))))))))))))
 
 abbrev plain_struct : Known
@@ -496,7 +496,7 @@ abbrev plain_threads_1 : Syntax → List Thread
 plain_threads_1 a = alive plain_1 (plain_threads_0 a)
 
 plain_struct_fits : (a : Syntax) → Fits (struct_plan a inherited) plain_struct (alive plain_struct (plain_threads_0 a))
-unfolding kept_end function_end signature_end abi_and_signature struct_plan enum_plan union_plan type_plan static_plan use_plan module_plan trait_end trait_plan trait_or_alias const_trait_or_alias const_plan definition_plan kept_impl impl_types impl_generics impl_plan visible_impl const_impl_plan extern_plan extern_crate_plan restricted_end bare_impl_plan unsafe_plan behind_const macro_plan other_plan
+unfolding kept_end function_end signature_end abi_and_signature struct_plan enum_plan union_plan type_plan static_plan use_plan module_plan trait_end trait_plan trait_or_alias const_trait_or_alias const_plan definition_plan kept_impl impl_types impl_generics impl_plan visible_impl const_impl_plan extern_plan extern_crate_plan restricted_end bare_impl_plan unsafe_plan following_const macro_plan other_plan
 plain_struct_fits a = λ k. λ n. λ g. λ b. refl
 
 abbrev plain_enum : Known
@@ -509,7 +509,7 @@ abbrev plain_threads_2 : Syntax → List Thread
 plain_threads_2 a = alive plain_2 (plain_threads_1 a)
 
 plain_enum_fits : (a : Syntax) → Fits (enum_plan a inherited) plain_enum (alive plain_enum (plain_threads_1 a))
-unfolding kept_end function_end signature_end abi_and_signature struct_plan enum_plan union_plan type_plan static_plan use_plan module_plan trait_end trait_plan trait_or_alias const_trait_or_alias const_plan definition_plan kept_impl impl_types impl_generics impl_plan visible_impl const_impl_plan extern_plan extern_crate_plan restricted_end bare_impl_plan unsafe_plan behind_const macro_plan other_plan
+unfolding kept_end function_end signature_end abi_and_signature struct_plan enum_plan union_plan type_plan static_plan use_plan module_plan trait_end trait_plan trait_or_alias const_trait_or_alias const_plan definition_plan kept_impl impl_types impl_generics impl_plan visible_impl const_impl_plan extern_plan extern_crate_plan restricted_end bare_impl_plan unsafe_plan following_const macro_plan other_plan
 plain_enum_fits a = λ k. λ n. λ g. λ w. λ b. refl
 
 abbrev plain_union : Known
@@ -522,7 +522,7 @@ abbrev plain_threads_3 : Syntax → List Thread
 plain_threads_3 a = alive plain_3 (plain_threads_2 a)
 
 plain_union_fits : (a : Syntax) → Fits (union_plan a inherited) plain_union (alive plain_union (plain_threads_2 a))
-unfolding kept_end function_end signature_end abi_and_signature struct_plan enum_plan union_plan type_plan static_plan use_plan module_plan trait_end trait_plan trait_or_alias const_trait_or_alias const_plan definition_plan kept_impl impl_types impl_generics impl_plan visible_impl const_impl_plan extern_plan extern_crate_plan restricted_end bare_impl_plan unsafe_plan behind_const macro_plan other_plan
+unfolding kept_end function_end signature_end abi_and_signature struct_plan enum_plan union_plan type_plan static_plan use_plan module_plan trait_end trait_plan trait_or_alias const_trait_or_alias const_plan definition_plan kept_impl impl_types impl_generics impl_plan visible_impl const_impl_plan extern_plan extern_crate_plan restricted_end bare_impl_plan unsafe_plan following_const macro_plan other_plan
 plain_union_fits a = λ k. λ n. λ g. λ w. λ b. refl
 
 abbrev plain_type : Known
@@ -535,7 +535,7 @@ abbrev plain_threads_4 : Syntax → List Thread
 plain_threads_4 a = alive plain_4 (plain_threads_3 a)
 
 plain_type_fits : (a : Syntax) → Fits (type_plan a inherited) plain_type (alive plain_type (plain_threads_3 a))
-unfolding kept_end function_end signature_end abi_and_signature struct_plan enum_plan union_plan type_plan static_plan use_plan module_plan trait_end trait_plan trait_or_alias const_trait_or_alias const_plan definition_plan kept_impl impl_types impl_generics impl_plan visible_impl const_impl_plan extern_plan extern_crate_plan restricted_end bare_impl_plan unsafe_plan behind_const macro_plan other_plan
+unfolding kept_end function_end signature_end abi_and_signature struct_plan enum_plan union_plan type_plan static_plan use_plan module_plan trait_end trait_plan trait_or_alias const_trait_or_alias const_plan definition_plan kept_impl impl_types impl_generics impl_plan visible_impl const_impl_plan extern_plan extern_crate_plan restricted_end bare_impl_plan unsafe_plan following_const macro_plan other_plan
 plain_type_fits a = λ k. λ n. λ g. ((refl, λ c. λ b. λ t. λ z. refl), λ w. (λ q. λ t. λ x. (((refl, refl), tt), (λ z. refl, tt)), (refl, λ z. refl)))
 
 abbrev plain_static : Known
@@ -548,7 +548,7 @@ abbrev plain_threads_5 : Syntax → List Thread
 plain_threads_5 a = alive plain_5 (plain_threads_4 a)
 
 plain_static_fits : (a : Syntax) → Fits (static_plan a inherited) plain_static (alive plain_static (plain_threads_4 a))
-unfolding kept_end function_end signature_end abi_and_signature struct_plan enum_plan union_plan type_plan static_plan use_plan module_plan trait_end trait_plan trait_or_alias const_trait_or_alias const_plan definition_plan kept_impl impl_types impl_generics impl_plan visible_impl const_impl_plan extern_plan extern_crate_plan restricted_end bare_impl_plan unsafe_plan behind_const macro_plan other_plan
+unfolding kept_end function_end signature_end abi_and_signature struct_plan enum_plan union_plan type_plan static_plan use_plan module_plan trait_end trait_plan trait_or_alias const_trait_or_alias const_plan definition_plan kept_impl impl_types impl_generics impl_plan visible_impl const_impl_plan extern_plan extern_crate_plan restricted_end bare_impl_plan unsafe_plan following_const macro_plan other_plan
 plain_static_fits a = λ k. λ u. λ n. (λ c. λ t. (λ q. λ e. λ z. refl, (refl, λ z. refl)), (refl, λ q. λ e. λ z. refl))
 
 abbrev plain_use : Known
@@ -561,7 +561,7 @@ abbrev plain_threads_6 : Syntax → List Thread
 plain_threads_6 a = alive plain_6 (plain_threads_5 a)
 
 plain_use_fits : (a : Syntax) → Fits (use_plan a inherited) plain_use (alive plain_use (plain_threads_5 a))
-unfolding kept_end function_end signature_end abi_and_signature struct_plan enum_plan union_plan type_plan static_plan use_plan module_plan trait_end trait_plan trait_or_alias const_trait_or_alias const_plan definition_plan kept_impl impl_types impl_generics impl_plan visible_impl const_impl_plan extern_plan extern_crate_plan restricted_end bare_impl_plan unsafe_plan behind_const macro_plan other_plan
+unfolding kept_end function_end signature_end abi_and_signature struct_plan enum_plan union_plan type_plan static_plan use_plan module_plan trait_end trait_plan trait_or_alias const_trait_or_alias const_plan definition_plan kept_impl impl_types impl_generics impl_plan visible_impl const_impl_plan extern_plan extern_crate_plan restricted_end bare_impl_plan unsafe_plan following_const macro_plan other_plan
 plain_use_fits a = λ k. (λ t. (((refl, refl), ((refl, refl), tt)), ((refl, λ z. refl), λ z. refl)), λ c. λ t. λ z. refl)
 
 abbrev plain_mod : Known
@@ -574,7 +574,7 @@ abbrev plain_threads_7 : Syntax → List Thread
 plain_threads_7 a = alive plain_7 (plain_threads_6 a)
 
 plain_mod_fits : (a : Syntax) → Fits (module_plan a inherited absent) plain_mod (alive plain_mod (plain_threads_6 a))
-unfolding kept_end function_end signature_end abi_and_signature struct_plan enum_plan union_plan type_plan static_plan use_plan module_plan trait_end trait_plan trait_or_alias const_trait_or_alias const_plan definition_plan kept_impl impl_types impl_generics impl_plan visible_impl const_impl_plan extern_plan extern_crate_plan restricted_end bare_impl_plan unsafe_plan behind_const macro_plan other_plan
+unfolding kept_end function_end signature_end abi_and_signature struct_plan enum_plan union_plan type_plan static_plan use_plan module_plan trait_end trait_plan trait_or_alias const_trait_or_alias const_plan definition_plan kept_impl impl_types impl_generics impl_plan visible_impl const_impl_plan extern_plan extern_crate_plan restricted_end bare_impl_plan unsafe_plan following_const macro_plan other_plan
 plain_mod_fits a = λ k. λ n. (λ z. refl, λ b. refl)
 
 abbrev plain_trait : Known
@@ -587,7 +587,7 @@ abbrev plain_threads_8 : Syntax → List Thread
 plain_threads_8 a = alive plain_8 (plain_threads_7 a)
 
 plain_trait_fits : (a : Syntax) → Fits (trait_or_alias a inherited) plain_trait (alive plain_trait (plain_threads_7 a))
-unfolding kept_end function_end signature_end abi_and_signature struct_plan enum_plan union_plan type_plan static_plan use_plan module_plan trait_end trait_plan trait_or_alias const_trait_or_alias const_plan definition_plan kept_impl impl_types impl_generics impl_plan visible_impl const_impl_plan extern_plan extern_crate_plan restricted_end bare_impl_plan unsafe_plan behind_const macro_plan other_plan
+unfolding kept_end function_end signature_end abi_and_signature struct_plan enum_plan union_plan type_plan static_plan use_plan module_plan trait_end trait_plan trait_or_alias const_trait_or_alias const_plan definition_plan kept_impl impl_types impl_generics impl_plan visible_impl const_impl_plan extern_plan extern_crate_plan restricted_end bare_impl_plan unsafe_plan following_const macro_plan other_plan
 plain_trait_fits a = λ k. λ n. λ g. (λ q. λ b. λ w. λ z. refl, λ b. λ w. λ m. refl)
 
 abbrev plain_auto : Known
@@ -600,7 +600,7 @@ abbrev plain_threads_9 : Syntax → List Thread
 plain_threads_9 a = alive plain_9 (plain_threads_8 a)
 
 plain_auto_fits : (a : Syntax) → Fits (trait_plan a inherited absent absent) plain_auto (alive plain_auto (plain_threads_8 a))
-unfolding kept_end function_end signature_end abi_and_signature struct_plan enum_plan union_plan type_plan static_plan use_plan module_plan trait_end trait_plan trait_or_alias const_trait_or_alias const_plan definition_plan kept_impl impl_types impl_generics impl_plan visible_impl const_impl_plan extern_plan extern_crate_plan restricted_end bare_impl_plan unsafe_plan behind_const macro_plan other_plan
+unfolding kept_end function_end signature_end abi_and_signature struct_plan enum_plan union_plan type_plan static_plan use_plan module_plan trait_end trait_plan trait_or_alias const_trait_or_alias const_plan definition_plan kept_impl impl_types impl_generics impl_plan visible_impl const_impl_plan extern_plan extern_crate_plan restricted_end bare_impl_plan unsafe_plan following_const macro_plan other_plan
 plain_auto_fits a = λ o. λ k. λ n. λ g. λ b. λ w. λ m. refl
 
 abbrev plain_macro : Known
@@ -613,7 +613,7 @@ abbrev plain_threads_10 : Syntax → List Thread
 plain_threads_10 a = alive plain_10 (plain_threads_9 a)
 
 plain_macro_fits : (a : Syntax) → Fits (definition_plan) plain_macro (alive plain_macro (plain_threads_9 a))
-unfolding kept_end function_end signature_end abi_and_signature struct_plan enum_plan union_plan type_plan static_plan use_plan module_plan trait_end trait_plan trait_or_alias const_trait_or_alias const_plan definition_plan kept_impl impl_types impl_generics impl_plan visible_impl const_impl_plan extern_plan extern_crate_plan restricted_end bare_impl_plan unsafe_plan behind_const macro_plan other_plan
+unfolding kept_end function_end signature_end abi_and_signature struct_plan enum_plan union_plan type_plan static_plan use_plan module_plan trait_end trait_plan trait_or_alias const_trait_or_alias const_plan definition_plan kept_impl impl_types impl_generics impl_plan visible_impl const_impl_plan extern_plan extern_crate_plan restricted_end bare_impl_plan unsafe_plan following_const macro_plan other_plan
 plain_macro_fits a = (refl, λ k. λ n. λ p. λ b. refl)
 
 abbrev plain_fn : Known
@@ -626,7 +626,7 @@ abbrev plain_threads_11 : Syntax → List Thread
 plain_threads_11 a = alive plain_11 (plain_threads_10 a)
 
 plain_fn_fits : (a : Syntax) → Fits (reads (rule signature) λ s. function_end a inherited s) plain_fn (alive plain_fn (plain_threads_10 a))
-unfolding kept_end function_end signature_end abi_and_signature struct_plan enum_plan union_plan type_plan static_plan use_plan module_plan trait_end trait_plan trait_or_alias const_trait_or_alias const_plan definition_plan kept_impl impl_types impl_generics impl_plan visible_impl const_impl_plan extern_plan extern_crate_plan restricted_end bare_impl_plan unsafe_plan behind_const macro_plan other_plan
+unfolding kept_end function_end signature_end abi_and_signature struct_plan enum_plan union_plan type_plan static_plan use_plan module_plan trait_end trait_plan trait_or_alias const_trait_or_alias const_plan definition_plan kept_impl impl_types impl_generics impl_plan visible_impl const_impl_plan extern_plan extern_crate_plan restricted_end bare_impl_plan unsafe_plan following_const macro_plan other_plan
 plain_fn_fits a = λ s. ((refl, λ z. refl), λ b. refl)
 
 abbrev plain_extern : Known
@@ -641,7 +641,7 @@ plain_threads_12 a = alive plain_12 (plain_threads_11 a)
 plain_extern_fits : (a : Syntax) → Fits (reads (plainly (word w_extern)) λ e.
     turns (at_word w_crate) (extern_crate_plan a inherited e)
     (extern_plan plain a inherited absent (Node absent) e)) plain_extern (alive plain_extern (plain_threads_11 a))
-unfolding kept_end function_end signature_end abi_and_signature struct_plan enum_plan union_plan type_plan static_plan use_plan module_plan trait_end trait_plan trait_or_alias const_trait_or_alias const_plan definition_plan kept_impl impl_types impl_generics impl_plan visible_impl const_impl_plan extern_plan extern_crate_plan restricted_end bare_impl_plan unsafe_plan behind_const macro_plan other_plan
+unfolding kept_end function_end signature_end abi_and_signature struct_plan enum_plan union_plan type_plan static_plan use_plan module_plan trait_end trait_plan trait_or_alias const_trait_or_alias const_plan definition_plan kept_impl impl_types impl_generics impl_plan visible_impl const_impl_plan extern_plan extern_crate_plan restricted_end bare_impl_plan unsafe_plan following_const macro_plan other_plan
 plain_extern_fits a = λ e. (λ k. λ n. λ r. λ z. refl, λ l. (λ b. refl, λ s. ((refl, λ z. refl), λ b. refl)))
 
 abbrev plain_unsafe : Known
@@ -657,7 +657,7 @@ plain_unsafe_fits : (a : Syntax) → Fits (reads (item_word w_unsafe) λ u.
     turns (at_word w_mod) (module_plan a inherited (Left u))
     (turns (at_word w_trait or_else at_word w_auto) (trait_plan a inherited absent (Left u))
     (unsafe_plan plain a inherited u))) plain_unsafe (alive plain_unsafe (plain_threads_12 a))
-unfolding kept_end function_end signature_end abi_and_signature struct_plan enum_plan union_plan type_plan static_plan use_plan module_plan trait_end trait_plan trait_or_alias const_trait_or_alias const_plan definition_plan kept_impl impl_types impl_generics impl_plan visible_impl const_impl_plan extern_plan extern_crate_plan restricted_end bare_impl_plan unsafe_plan behind_const macro_plan other_plan
+unfolding kept_end function_end signature_end abi_and_signature struct_plan enum_plan union_plan type_plan static_plan use_plan module_plan trait_end trait_plan trait_or_alias const_trait_or_alias const_plan definition_plan kept_impl impl_types impl_generics impl_plan visible_impl const_impl_plan extern_plan extern_crate_plan restricted_end bare_impl_plan unsafe_plan following_const macro_plan other_plan
 plain_unsafe_fits a = λ u. (λ k. λ n. (λ z. refl, λ b. refl), (λ o. λ k. λ n. λ g. λ b. λ w. λ m. refl, (λ k. (λ g. (λ x. (λ b. refl, (λ t. λ f. λ b. refl, (refl, λ t. λ f. λ b. refl))), (λ t. λ f. λ b. refl, λ t. ((refl, λ f. λ b. refl), λ b. refl))), (λ x. (λ b. refl, (λ t. λ f. λ b. refl, (refl, λ t. λ f. λ b. refl))), (λ t. λ f. λ b. refl, λ t. ((refl, λ f. λ b. refl), λ b. refl)))), (λ e. λ l. (λ b. refl, λ s. ((refl, λ z. refl), λ b. refl)), λ s. ((refl, λ z. refl), λ b. refl)))))
 
 abbrev plain_const : Known
@@ -669,8 +669,8 @@ plain_14 = noted (at_word w_const) false plain_13
 abbrev plain_threads_14 : Syntax → List Thread
 plain_threads_14 a = alive plain_14 (plain_threads_13 a)
 
-plain_const_fits : (a : Syntax) → Fits (reads (item_word w_const) λ c. behind_const plain a inherited c) plain_const (alive plain_const (plain_threads_13 a))
-unfolding kept_end function_end signature_end abi_and_signature struct_plan enum_plan union_plan type_plan static_plan use_plan module_plan trait_end trait_plan trait_or_alias const_trait_or_alias const_plan definition_plan kept_impl impl_types impl_generics impl_plan visible_impl const_impl_plan extern_plan extern_crate_plan restricted_end bare_impl_plan unsafe_plan behind_const macro_plan other_plan
+plain_const_fits : (a : Syntax) → Fits (reads (item_word w_const) λ c. following_const plain a inherited c) plain_const (alive plain_const (plain_threads_13 a))
+unfolding kept_end function_end signature_end abi_and_signature struct_plan enum_plan union_plan type_plan static_plan use_plan module_plan trait_end trait_plan trait_or_alias const_trait_or_alias const_plan definition_plan kept_impl impl_types impl_generics impl_plan visible_impl const_impl_plan extern_plan extern_crate_plan restricted_end bare_impl_plan unsafe_plan following_const macro_plan other_plan
 plain_const_fits a = λ c. (λ u. (λ o. λ k. λ n. λ g. λ b. λ w. λ m. refl, (λ k. (λ g. (λ x. (λ b. refl, (λ t. λ f. λ b. refl, (refl, λ t. λ f. λ b. refl))), (λ t. λ f. λ b. refl, λ t. ((refl, λ f. λ b. refl), λ b. refl))), (λ x. (λ b. refl, (λ t. λ f. λ b. refl, (refl, λ t. λ f. λ b. refl))), (λ t. λ f. λ b. refl, λ t. ((refl, λ f. λ b. refl), λ b. refl)))), λ e. λ s. ((refl, λ z. refl), λ b. refl))), (λ k. λ n. λ g. ((refl, λ q. λ b. λ w. λ z. refl), λ b. λ w. λ m. refl), (λ o. λ k. λ n. λ g. λ b. λ w. λ m. refl, (λ k. (λ g. (λ x. (λ b. refl, (λ t. λ f. λ b. refl, (refl, λ t. λ f. λ b. refl))), (λ t. λ f. λ b. refl, λ t. ((refl, λ f. λ b. refl), λ b. refl))), (λ x. (λ b. refl, (λ t. λ f. λ b. refl, (refl, λ t. λ f. λ b. refl))), (λ t. λ f. λ b. refl, λ t. ((refl, λ f. λ b. refl), λ b. refl)))), (λ y. λ u. λ e. λ s. ((refl, λ z. refl), λ b. refl), λ n. ((refl, λ g. λ c. λ t. λ e. λ w. λ z. refl), λ c. λ t. (λ q. λ e. (λ z. refl, (refl, λ w. λ z. refl)), (refl, λ w. λ z. refl))))))))
 
 abbrev plain_impl : Known
@@ -683,19 +683,19 @@ abbrev plain_threads_15 : Syntax → List Thread
 plain_threads_15 a = alive plain_15 (plain_threads_14 a)
 
 plain_impl_fits : (a : Syntax) → Fits (bare_impl_plan plain a) plain_impl (alive plain_impl (plain_threads_14 a))
-unfolding kept_end function_end signature_end abi_and_signature struct_plan enum_plan union_plan type_plan static_plan use_plan module_plan trait_end trait_plan trait_or_alias const_trait_or_alias const_plan definition_plan kept_impl impl_types impl_generics impl_plan visible_impl const_impl_plan extern_plan extern_crate_plan restricted_end bare_impl_plan unsafe_plan behind_const macro_plan other_plan
+unfolding kept_end function_end signature_end abi_and_signature struct_plan enum_plan union_plan type_plan static_plan use_plan module_plan trait_end trait_plan trait_or_alias const_trait_or_alias const_plan definition_plan kept_impl impl_types impl_generics impl_plan visible_impl const_impl_plan extern_plan extern_crate_plan restricted_end bare_impl_plan unsafe_plan following_const macro_plan other_plan
 plain_impl_fits a = λ k. ((refl, λ r. λ c. λ t. refl), (λ t. ((refl, λ f. λ b. refl), (λ b. refl, (refl, λ c. λ t. refl))), (λ g. (λ x. (λ b. refl, (λ t. λ f. λ b. refl, (refl, λ t. λ f. λ b. refl))), (λ t. λ f. λ b. refl, λ t. ((refl, λ f. λ b. refl), λ b. refl))), (λ x. (λ b. refl, (λ t. λ f. λ b. refl, (refl, λ t. λ f. λ b. refl))), (λ t. λ f. λ b. refl, λ t. ((refl, λ f. λ b. refl), λ b. refl))))))
 
 plain_other_fits : (a : Syntax) → Fits (other_plan plain a) plain_15 (plain_threads_15 a)
-unfolding kept_end function_end signature_end abi_and_signature struct_plan enum_plan union_plan type_plan static_plan use_plan module_plan trait_end trait_plan trait_or_alias const_trait_or_alias const_plan definition_plan kept_impl impl_types impl_generics impl_plan visible_impl const_impl_plan extern_plan extern_crate_plan restricted_end bare_impl_plan unsafe_plan behind_const macro_plan other_plan
+unfolding kept_end function_end signature_end abi_and_signature struct_plan enum_plan union_plan type_plan static_plan use_plan module_plan trait_end trait_plan trait_or_alias const_trait_or_alias const_plan definition_plan kept_impl impl_types impl_generics impl_plan visible_impl const_impl_plan extern_plan extern_crate_plan restricted_end bare_impl_plan unsafe_plan following_const macro_plan other_plan
 plain_other_fits a = (((tt, λ p. λ x. λ n. λ g. refl), λ d. λ c. λ u. λ k. (λ g. (λ x. (λ b. refl, (λ t. λ f. λ b. refl, (refl, λ t. λ f. λ b. refl))), (λ t. λ f. λ b. refl, λ t. ((refl, λ f. λ b. refl), λ b. refl))), (λ x. (λ b. refl, (λ t. λ f. λ b. refl, (refl, λ t. λ f. λ b. refl))), (λ t. λ f. λ b. refl, λ t. ((refl, λ f. λ b. refl), λ b. refl))))), (tt, λ p. λ x. λ n. λ g. refl))
 
-plain_fits : (a : Syntax) → Fits (behind_visibility plain a inherited) plain_0 (plain_threads_0 a)
-unfolding behind_visibility
+plain_fits : (a : Syntax) → Fits (after_visibility plain a inherited) plain_0 (plain_threads_0 a)
+unfolding after_visibility
 plain_fits a = (plain_struct_fits a, (plain_enum_fits a, (plain_union_fits a, (plain_type_fits a, (plain_static_fits a, (plain_use_fits a, (plain_mod_fits a, (plain_trait_fits a, (plain_auto_fits a, (plain_macro_fits a, (plain_fn_fits a, (plain_extern_fits a, (plain_unsafe_fits a, (plain_const_fits a, (plain_impl_fits a, plain_other_fits a)))))))))))))))
 
 pub item_fits : Fits item_plan [] threads
-unfolding item_plan item_behind
+unfolding item_plan item_after
 item_fits = λ a. ((λ v. public_fits a v), ((λ v. unwritten_fits a v), plain_fits a))
 
 -- ---- THE UNION IS THESE ALTERNATIVES
@@ -739,9 +739,9 @@ restricted_is ts =
 abbrev kept_rules : List Rule
 kept_rules = bodiless_function ∷ rooted_use ∷ untyped_static ∷ valueless_static ∷ odd_const ∷ macro_definition ∷ odd_type ∷ const_alias ∷ restricted_trait ∷ odd_impl ∷ visible_const_impl ∷ []
 
-one_behind : (o : Out) (p q : Parser) → ((r : Stream) → rest (p r) ≡ rest (q r)) → rest (and_then o p) ≡ rest (and_then o q)
-one_behind (Some x) p q h = rest_wrap (Both x.0) (p x.1) ∙ h x.1 ∙ sym (rest_wrap (Both x.0) (q x.1))
-one_behind None p q h = refl
+one_after : (o : Out) (p q : Parser) → ((r : Stream) → rest (p r) ≡ rest (q r)) → rest (and_then o p) ≡ rest (and_then o q)
+one_after (Some x) p q h = rest_wrap (Both x.0) (p x.1) ∙ h x.1 ∙ sym (rest_wrap (Both x.0) (q x.1))
+one_after None p q h = refl
 
 module _ (ts : Stream) where
   abbrev K : Rule → Out
@@ -759,7 +759,7 @@ module _ (ts : Stream) where
 
   kept_start : keep kept_item ts (rest (and_then (parse_rule attributes ts) (parse_rule kept_item_rest))) ≡ answer_all kept_item ts kept ts
   kept_start =
-      ap (keep kept_item ts) (one_behind (parse_rule attributes ts) (parse_rule kept_item_rest) (first_rule parse_rule kept_rules) (λ r. ap rest (parse_rule_is kept_item_rest r) ∙ rest_wrap Node (first_rule parse_rule kept_rules r)))
+      ap (keep kept_item ts) (one_after (parse_rule attributes ts) (parse_rule kept_item_rest) (first_rule parse_rule kept_rules) (λ r. ap rest (parse_rule_is kept_item_rest r) ∙ rest_wrap Node (first_rule parse_rule kept_rules r)))
       ∙ kept_union kept_item ts kept_rules ∙ all_kept_are
 
   item_start : parse_rule item ts ≡ answer_all kept_item ts threads ts

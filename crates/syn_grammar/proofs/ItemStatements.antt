@@ -1,6 +1,6 @@
 -- An item as a statement is the item that the rule `item` reads of the same tokens.
 use Rattle.std.proofs.Common.{◌≡◌, true, false, List, [], ◌∷◌, Some, None, refl, sym, ap, ap₂, ◌∙◌, subst}
-use Rattle.syn_grammar.specs.Tokens.{Stream, ended, stands}
+use Rattle.syn_grammar.specs.Tokens.{Stream, ended, present}
 use Rattle.syn_grammar.specs.Rules.{Rule, attributes, structure, structure_rest, enumeration, enumeration_rest, union_item, union_item_rest, function, function_rest, const_item, const_item_rest, static_item, static_item_rest, extern_crate, extern_crate_rest, use_item, use_item_rest, module_item, module_item_rest, trait_alias, trait_alias_rest, type_item, type_item_rest, macro_as_item, macro_as_item_rest, trait_definition, trait_definition_rest, impl_definition, impl_definition_rest, foreign_module, foreign_module_rest, kept_item, kept_item_rest, kept_in_block, item_rest, item, statement, statements}
 use Rattle.syn_grammar.specs.Shape.{an_item, attributed, single}
 use Rattle.syn_grammar.specs.Grammar.{Syntax, Nothing, Both, Left, Right, Node, Case, Captured, Shaped}
@@ -10,8 +10,8 @@ use Rattle.syn_grammar.specs.Take.{Out, Parser, sees, before}
 use Rattle.syn_grammar.specs.Run.{wrap, and_then, branch, first_of, named, unwrapped, first_rule, caught, parse_form, parse_rule}
 use Rattle.syn_grammar.specs.ItemStatements.{item_statement, item_listed, ItemStatements}
 use Rattle.syn_grammar.proofs.Run.{parse_rule_is}
-use Rattle.syn_grammar.proofs.Takes.{sees_stands}
-use Rattle.syn_grammar.proofs.Means.{parse_rule_told}
+use Rattle.syn_grammar.proofs.Takes.{sees_present}
+use Rattle.syn_grammar.proofs.Means.{parse_rule_known}
 use Rattle.syn_grammar.proofs.Proved.{one_tree}
 
 -- an item's rule, and the rule of what follows its attributes
@@ -122,10 +122,10 @@ module _ (ts m : Stream) (a : Syntax) (outer : parse_rule attributes ts ≡ Some
   -- no item is both of a kind and verbatim
   not_both : (c f : Syntax × Stream) → C ≡ Some c → F ≡ Some f → ⊥
   not_both c f e i =
-      let (t, d, x) = parse_rule_told kept_in_block ts (Node c.0, c.1) (blocked ∙ ap (wrap Node) e) in
-      let (u, b, y) = parse_rule_told item_rest m (Node f.0, f.1) (rest_is ∙ ap (wrap Node) i) in
-      let (v, q, z) = parse_rule_told attributes ts (a, m) outer in
-      let h : stands at_item m ≡ true = sym (sees_stands at_item m) ∙ starts in
+      let (t, d, x) = parse_rule_known kept_in_block ts (Node c.0, c.1) (blocked ∙ ap (wrap Node) e) in
+      let (u, b, y) = parse_rule_known item_rest m (Node f.0, f.1) (rest_is ∙ ap (wrap Node) i) in
+      let (v, q, z) = parse_rule_known attributes ts (a, m) outer in
+      let h : present at_item m ≡ true = sym (sees_present at_item m) ∙ starts in
       let k = (one_tree statement ts (Node (Shaped single (Left (Shaped an_item t)))) (Node (Shaped single (Right (Shaped attributed (Both v (Left (Shaped an_item u))))))) c.1 f.1 (refl, (refl, d)) (refl, (refl, (m, q, (h, (refl, b)))))).0 in
       absurd (cc k)
 

@@ -316,25 +316,25 @@ asked_for_is n (p ∷ l) f = go (same_fact n p.1) (answers p.0 f) refl refl (ask
     go false false a b ih = ih
 
 -- what is known after this word
-abbrev pub behind_word : Text → Known → Known
-behind_word x [] = []
-behind_word x ((ahead n, v) ∷ l) = noted (asked_for n (asked (Word x))) v (behind_word x l)
-behind_word x ((c, v) ∷ l) = behind_word x l
+abbrev pub following_word : Text → Known → Known
+following_word x [] = []
+following_word x ((ahead n, v) ∷ l) = noted (asked_for n (asked (Word x))) v (following_word x l)
+following_word x ((c, v) ∷ l) = following_word x l
 
-pub behind_word_is : (x : Text) (l : Known) (f g : Lookahead) → f.terminal ≡ Word x → f.facts ≡ facts_for (asked f.terminal) g → Holds l f → Holds (behind_word x l) g
-behind_word_is x [] f g e q h = tt
-behind_word_is x ((ahead n, v) ∷ l) f g e q h =
-    noted_is (asked_for n (asked (Word x))) v (behind_word x l) g (behind_word_is x l f g e q h.1) (asked_for_is n (asked (Word x)) g ∙ ap (λ t. has_fact n (facts_for (asked t) g)) (sym e) ∙ ap (has_fact n) (sym q) ∙ h.0)
-behind_word_is x ((ended, v) ∷ l) f g e q h = behind_word_is x l f g e q h.1
-behind_word_is x ((at_name, v) ∷ l) f g e q h = behind_word_is x l f g e q h.1
-behind_word_is x ((at_word y, v) ∷ l) f g e q h = behind_word_is x l f g e q h.1
-behind_word_is x ((at_mark y, v) ∷ l) f g e q h = behind_word_is x l f g e q h.1
-behind_word_is x ((at_literal y, v) ∷ l) f g e q h = behind_word_is x l f g e q h.1
-behind_word_is x ((at_group y, v) ∷ l) f g e q h = behind_word_is x l f g e q h.1
-behind_word_is x ((at_empty_group, v) ∷ l) f g e q h = behind_word_is x l f g e q h.1
-behind_word_is x ((a or_else b, v) ∷ l) f g e q h = behind_word_is x l f g e q h.1
-behind_word_is x ((a and_also b, v) ∷ l) f g e q h = behind_word_is x l f g e q h.1
-behind_word_is x ((a but_not b, v) ∷ l) f g e q h = behind_word_is x l f g e q h.1
+pub following_word_is : (x : Text) (l : Known) (f g : Lookahead) → f.terminal ≡ Word x → f.facts ≡ facts_for (asked f.terminal) g → Holds l f → Holds (following_word x l) g
+following_word_is x [] f g e q h = tt
+following_word_is x ((ahead n, v) ∷ l) f g e q h =
+    noted_is (asked_for n (asked (Word x))) v (following_word x l) g (following_word_is x l f g e q h.1) (asked_for_is n (asked (Word x)) g ∙ ap (λ t. has_fact n (facts_for (asked t) g)) (sym e) ∙ ap (has_fact n) (sym q) ∙ h.0)
+following_word_is x ((ended, v) ∷ l) f g e q h = following_word_is x l f g e q h.1
+following_word_is x ((at_name, v) ∷ l) f g e q h = following_word_is x l f g e q h.1
+following_word_is x ((at_word y, v) ∷ l) f g e q h = following_word_is x l f g e q h.1
+following_word_is x ((at_mark y, v) ∷ l) f g e q h = following_word_is x l f g e q h.1
+following_word_is x ((at_literal y, v) ∷ l) f g e q h = following_word_is x l f g e q h.1
+following_word_is x ((at_group y, v) ∷ l) f g e q h = following_word_is x l f g e q h.1
+following_word_is x ((at_empty_group, v) ∷ l) f g e q h = following_word_is x l f g e q h.1
+following_word_is x ((a or_else b, v) ∷ l) f g e q h = following_word_is x l f g e q h.1
+following_word_is x ((a and_also b, v) ∷ l) f g e q h = following_word_is x l f g e q h.1
+following_word_is x ((a but_not b, v) ∷ l) f g e q h = following_word_is x l f g e q h.1
 
 -- all that is known, noted once more
 abbrev pub again : Known → Known → Known
@@ -370,7 +370,7 @@ known_word_is ((a and_also b, v) ∷ l) f h x e = known_word_is l f h.1 x e
 known_word_is ((a but_not b, v) ∷ l) f h x e = known_word_is l f h.1 x e
 
 abbrev pub after_word : Option Text → Known → Known
-after_word (Some x) l = behind_word x (again ((at_word x, true) ∷ []) l)
+after_word (Some x) l = following_word x (again ((at_word x, true) ∷ []) l)
 after_word None l = []
 
 -- what is known after a token of this kind
@@ -380,7 +380,7 @@ after_token k l = after_word (known_word l) l
 
 pub after_word_is : (o : Option Text) (l : Known) (y : Leaf) (sp : Span) (r : Stream) → Holds l (lookahead (leaf y sp r)) → Stood o (lookahead (leaf y sp r)) → Holds (after_word o l) (lookahead r)
 after_word_is (Some x) l y sp r h w =
-    behind_word_is x (again ((at_word x, true) ∷ []) l) (lookahead (leaf y sp r)) (lookahead r) (w x refl) refl (again_is ((at_word x, true) ∷ []) l (lookahead (leaf y sp r)) (ap (is_word x) (w x refl) ∙ same_text_refl x, tt) h)
+    following_word_is x (again ((at_word x, true) ∷ []) l) (lookahead (leaf y sp r)) (lookahead r) (w x refl) refl (again_is ((at_word x, true) ∷ []) l (lookahead (leaf y sp r)) (ap (is_word x) (w x refl) ∙ same_text_refl x, tt) h)
 after_word_is None l y sp r h w = tt
 
 pub only_word : (x : Text) (t : Terminal) → or (same_terminal t (Word x)) false ≡ true → t ≡ Word x

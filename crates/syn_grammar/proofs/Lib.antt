@@ -56,7 +56,7 @@ pub mod PlanSteps
 pub mod SmallPlans
 pub mod AlonePlans
 pub mod Spared
-pub mod ToldByTokens
+pub mod DecidedByTokens
 pub mod Leads
 pub mod EntryPoints
 pub mod Listed

@@ -2,14 +2,14 @@
 use Rattle.std.proofs.Common.{◌≡◌, ℕ, Bool, true, false, None, refl, sym, ap, ap₂, ◌∙◌, subst, true≢false, ◌⊎◌, inl, inr}
 use Rattle.std.specs.Prelude.{List, [], ◌∷◌, ◌++◌, map, nat_eq}
 use Rattle.syn_grammar.specs.Words.{Text, keywords, contextual, w_async, w_auto, w_const, w_crate, w_enum, w_extern, w_fn, w_mod, w_mut, w_static, w_struct, w_trait, w_try, w_type, w_union, w_unsafe, exclamation, semicolon}
-use Rattle.syn_grammar.specs.Tokens.{Span, Delimiter, Paren, Brace, Bracket, Fact, Leaf, ident, literal, LitKind, Stream, end, leaf, punct, group, and, or, no, pick, same_text, one_of_texts, Name as NameT, Word, Literal, mem, Look, at_word, stands}
+use Rattle.syn_grammar.specs.Tokens.{Span, Delimiter, Paren, Brace, Bracket, Fact, Leaf, ident, literal, LitKind, Stream, end, leaf, punct, group, and, or, no, pick, same_text, one_of_texts, Name as NameT, Word, Literal, mem, Look, at_word, present}
 use Rattle.syn_grammar.specs.Rules.{Rule, attributes, visibility, unsafe_only, abi, alias, bare_trait, signature, signature_rest, macro_item_rest, macro_end, macro_as_item_rest, module_path, module_words, structure, enumeration, union_item, function, const_item, static_item, extern_crate, module_item, trait_alias, type_item, macro_as_item, trait_definition, item}
 use Rattle.syn_grammar.specs.RuleNumbers.{same_rule}
 use Rattle.syn_grammar.specs.Grammar.{Kind, word, name_or, literal_of, fits, Grammar, empty, token, mark, ◌&◌, when◌then◌else◌, vanishing, inside, raw, rule, shaped, unshown, Syntax, Nothing, Token, Mark, Both, Left, Right, Node, Vanishing, Group, Raw, Case, one_of, Shaped, Unshown, DerivesPrefix, Spelled, chars, among}
 use Rattle.syn_grammar.specs.Table.{at_paren, at_bracket, at_no_macro_item, at_bang, at_extern, at_macro_name, optional_item_word, table}
 use Rattle.syn_grammar.specs.Forms.{plainly, punctuation, asking_punctuation, never, optional}
 use Rattle.syn_grammar.specs.EntryPoints.{kinds_of}
-use Rattle.syn_grammar.specs.Listed.{first_part, other_parts, behind_parts, of_rule, of_choice, token_name, name_behind, behind_attributes, name_in, Marker, a_word, a_bang, marks_leaf, marks_char, past, name_next, past_mut, name_past, name_ahead, NamesStandAhead}
+use Rattle.syn_grammar.specs.Listed.{first_part, other_parts, after_parts, of_rule, of_choice, token_name, name_after, after_attributes, name_in, Marker, a_word, a_bang, marks_leaf, marks_char, past, name_next, past_mut, name_past, name_ahead, NamesAhead}
 use Rattle.std.proofs.lemmas.Bool.{eq-eqb}
 use Rattle.syn_grammar.proofs.RuleLemmas.{same_rule_eq}
 use Rattle.syn_grammar.proofs.Sets.{and_left, and_right, same_text_eq}
@@ -28,7 +28,7 @@ in_token b k (Token x sp) ts r d = (x, sp, refl, d.0, d.1)
 in_token b k _ ts r d = elim d [ ]
 
 pub in_choice : (c : Look) (g h : Grammar) (s : Syntax) (ts r : Stream) → DerivesPrefix table (when c then g else h) s ts r →
-    ((stands c ts ≡ true) × DerivesPrefix table g (of_choice s) ts r) ⊎ ((stands c ts ≡ false) × DerivesPrefix table h (of_choice s) ts r)
+    ((present c ts ≡ true) × DerivesPrefix table g (of_choice s) ts r) ⊎ ((present c ts ≡ false) × DerivesPrefix table h (of_choice s) ts r)
 in_choice c g h (Left s) ts r d = inl d
 in_choice c g h (Right s) ts r d = inr d
 in_choice c g h _ ts r d = elim d [ ]
@@ -183,18 +183,18 @@ land w b h s ts r d =
     (n, ap (past (a_word w)) (q ∙ ap (λ y. leaf y sp n) (one_word x w f)) ∙ ap (λ z. pick z n (past (a_word w) n)) (same_text_self w), c)
 
 -- the name
-name_stands : (b : List Fact) (k : Kind) (s : Syntax) (ts r : Stream) → DerivesPrefix table (token b k) s ts r → name_next ts ≡ token_name s
-name_stands b k s ts r d = let (x, sp, e, f, q) = in_token b k s ts r d in ap name_next q ∙ go x sp r ∙ ap token_name (sym e)
+name_present : (b : List Fact) (k : Kind) (s : Syntax) (ts r : Stream) → DerivesPrefix table (token b k) s ts r → name_next ts ≡ token_name s
+name_present b k s ts r d = let (x, sp, e, f, q) = in_token b k s ts r d in ap name_next q ∙ go x sp r ∙ ap token_name (sym e)
   where
     go : (x : Leaf) (sp : Span) (r : Stream) → name_next (leaf x sp r) ≡ token_name (Token x sp)
     go (ident t) sp r = refl
     go (literal k t) sp r = refl
 
 named : (b : List Fact) (k : Kind) (h : Grammar) (s : Syntax) (ts r : Stream) → DerivesPrefix table (token b k & h) s ts r → name_next ts ≡ token_name (first_part s)
-named b k h s ts r d = let (n, a, c) = in_sequence (token b k) h s ts r d in name_stands b k (first_part s) ts n a
+named b k h s ts r d = let (n, a, c) = in_sequence (token b k) h s ts r d in name_present b k (first_part s) ts n a
 
 abbrev Ahead : Rule → Type 0
-Ahead k = (ts : Stream) (s : Syntax) (r : Stream) → DerivesPrefix table (table k) s ts r → name_in k (behind_attributes s) ≡ name_ahead k ts
+Ahead k = (ts : Stream) (s : Syntax) (r : Stream) → DerivesPrefix table (table k) s ts r → name_in k (after_attributes s) ≡ name_ahead k ts
 
 -- no rule that may come before a name reads this word
 abbrev ClearOf : Text → Type 0
@@ -208,11 +208,11 @@ module _ (w : Text) (clear : ClearOf w) where
 
   -- attributes, and a visibility
   pass_both : (k : Rule) (h : Grammar) (s : Syntax) (ts r : Stream) → table k ≡ (rule visibility & h) → DerivesPrefix table (rule attributes & rule k) s ts r →
-      (n : Stream) × (past (a_word w) ts ≡ past (a_word w) n) × DerivesPrefix table h (other_parts (behind_attributes s)) n r
+      (n : Stream) × (past (a_word w) ts ≡ past (a_word w) n) × DerivesPrefix table h (other_parts (after_attributes s)) n r
   pass_both k h s ts r q d =
       let (n, e, a) = pass (rule attributes) (rule k) s ts r refl d in
-      let b = subst (λ g. DerivesPrefix table g (behind_attributes s) n r) q (in_rule k (other_parts s) n r a) in
-      let (m, f, c) = pass (rule visibility) h (behind_attributes s) n r refl b in
+      let b = subst (λ g. DerivesPrefix table g (after_attributes s) n r) q (in_rule k (other_parts s) n r a) in
+      let (m, f, c) = pass (rule visibility) h (after_attributes s) n r refl b in
       (m, e ∙ f, c)
 
   -- the word and the name
@@ -275,7 +275,7 @@ trait_named ts s r d =
     sym (ap name_next (e ∙ f ∙ g ∙ h) ∙ word_named w_trait (refl, (refl, (refl, (refl, tt)))) _ _ _ _ _ q r i)
 
 -- a signature's name
-signature_named : (s : Syntax) (ts r : Stream) → DerivesPrefix table (table signature) s ts r → name_past w_fn ts ≡ name_behind 1 (of_rule (behind_parts 4 s))
+signature_named : (s : Syntax) (ts r : Stream) → DerivesPrefix table (table signature) s ts r → name_past w_fn ts ≡ name_after 1 (of_rule (after_parts 4 s))
 signature_named s ts r d =
     let (n, e, a) = pass w_fn (refl, (refl, (refl, (refl, tt)))) (optional_item_word w_const) _ s ts r refl d in
     let (m, f, b) = pass w_fn (refl, (refl, (refl, (refl, tt)))) (optional_item_word w_async) _ _ n r refl a in
@@ -298,7 +298,7 @@ mut_passed s ts r d = go (in_choice (at_word w_mut) (token [] (word w_mut)) empt
     nothing Nothing e = e
     nothing _ e = elim e [ ]
 
-    unlike : (ts : Stream) → stands (at_word w_mut) ts ≡ false → past_mut ts ≡ ts
+    unlike : (ts : Stream) → present (at_word w_mut) ts ≡ false → past_mut ts ≡ ts
     unlike end e = refl
     unlike (leaf (literal k x) sp m) e = refl
     unlike (punct c j sp m) e = refl
@@ -306,10 +306,10 @@ mut_passed s ts r d = go (in_choice (at_word w_mut) (token [] (word w_mut)) empt
     unlike (leaf (ident x) sp m) e = as_text (same_text x w_mut) refl
       where
         as_text : (b : Bool) → same_text x w_mut ≡ b → pick b m (leaf (ident x) sp m) ≡ leaf (ident x) sp m
-        as_text true q = absurd (true≢false (ap (λ y. stands (at_word w_mut) (leaf (ident y) sp m)) (sym (same_text_eq x w_mut q)) ∙ e))
+        as_text true q = absurd (true≢false (ap (λ y. present (at_word w_mut) (leaf (ident y) sp m)) (sym (same_text_eq x w_mut q)) ∙ e))
         as_text false q = refl
 
-    go : ((stands (at_word w_mut) ts ≡ true) × DerivesPrefix table (token [] (word w_mut)) (of_choice s) ts r) ⊎ ((stands (at_word w_mut) ts ≡ false) × DerivesPrefix table empty (of_choice s) ts r) → past_mut ts ≡ r
+    go : ((present (at_word w_mut) ts ≡ true) × DerivesPrefix table (token [] (word w_mut)) (of_choice s) ts r) ⊎ ((present (at_word w_mut) ts ≡ false) × DerivesPrefix table empty (of_choice s) ts r) → past_mut ts ≡ r
     go (inl (e, d)) = let (x, sp, f, g, q) = in_token [] (word w_mut) (of_choice s) ts r d in ap past_mut (q ∙ ap (λ y. leaf y sp r) (one_word x w_mut g))
     go (inr (e, d)) = unlike ts e ∙ nothing (of_choice s) d
 
@@ -335,12 +335,12 @@ no_name_at_end s ts r d = by_paren (in_choice at_paren (raw Paren & punctuation 
     marked : (d : Delimiter) (t : Syntax) → DerivesPrefix table (raw d & punctuation semicolon) t ts r → name_next ts ≡ None
     marked d t a = let (n, b, c) = in_sequence (raw d) (punctuation semicolon) t ts r a in no_name_group d (first_part t) ts n b
 
-    by_bracket : (t : Syntax) → ((stands at_bracket ts ≡ true) × DerivesPrefix table (raw Bracket & punctuation semicolon) (of_choice t) ts r) ⊎ ((stands at_bracket ts ≡ false) × DerivesPrefix table (raw Brace) (of_choice t) ts r) → name_next ts ≡ None
+    by_bracket : (t : Syntax) → ((present at_bracket ts ≡ true) × DerivesPrefix table (raw Bracket & punctuation semicolon) (of_choice t) ts r) ⊎ ((present at_bracket ts ≡ false) × DerivesPrefix table (raw Brace) (of_choice t) ts r) → name_next ts ≡ None
     by_bracket t (inl (e, a)) = marked Bracket (of_choice t) a
     by_bracket t (inr (e, a)) = no_name_group Brace (of_choice t) ts r a
 
-    by_paren : ((stands at_paren ts ≡ true) × DerivesPrefix table (raw Paren & punctuation semicolon) (of_choice s) ts r)
-        ⊎ ((stands at_paren ts ≡ false) × DerivesPrefix table (when at_bracket then raw Bracket & punctuation semicolon else raw Brace) (of_choice s) ts r) → name_next ts ≡ None
+    by_paren : ((present at_paren ts ≡ true) × DerivesPrefix table (raw Paren & punctuation semicolon) (of_choice s) ts r)
+        ⊎ ((present at_paren ts ≡ false) × DerivesPrefix table (when at_bracket then raw Bracket & punctuation semicolon else raw Brace) (of_choice s) ts r) → name_next ts ≡ None
     by_paren (inl (e, a)) = marked Paren (of_choice s) a
     by_paren (inr (e, a)) = by_bracket (of_choice s) (in_choice at_bracket (raw Bracket & punctuation semicolon) (raw Brace) (of_choice s) ts r a)
 
@@ -357,14 +357,14 @@ bang_passed s ts r d = go (in_choice at_bang (asking_punctuation exclamation) ne
     bang (Mark xs) (e, h) = spelled xs e h
     bang _ d = elim d [ ]
 
-    go : ((stands at_bang ts ≡ true) × DerivesPrefix table (asking_punctuation exclamation) (of_choice s) ts r) ⊎ ((stands at_bang ts ≡ false) × DerivesPrefix table never (of_choice s) ts r) → past a_bang ts ≡ r
+    go : ((present at_bang ts ≡ true) × DerivesPrefix table (asking_punctuation exclamation) (of_choice s) ts r) ⊎ ((present at_bang ts ≡ false) × DerivesPrefix table never (of_choice s) ts r) → past a_bang ts ≡ r
     go (inl (e, d)) = bang (of_choice s) d
     go (inr (e, d)) = never_read (of_choice s) ts r d
 
 -- the name of a macro, where there is one before its group
-macro_name_stands : (s : Syntax) (ts r : Stream) → DerivesPrefix table ((when at_macro_name then plainly (name_or (w_try ∷ [])) else empty) & rule macro_end) s ts r →
+macro_name_present : (s : Syntax) (ts r : Stream) → DerivesPrefix table ((when at_macro_name then plainly (name_or (w_try ∷ [])) else empty) & rule macro_end) s ts r →
     name_next ts ≡ token_name (of_choice (first_part s))
-macro_name_stands s ts r d =
+macro_name_present s ts r d =
     let (n, a, b) = in_sequence (when at_macro_name then plainly (name_or (w_try ∷ [])) else empty) (rule macro_end) s ts r d in
     go n b (in_choice at_macro_name (plainly (name_or (w_try ∷ []))) empty (first_part s) ts n a)
   where
@@ -373,9 +373,9 @@ macro_name_stands s ts r d =
     nothing _ n e = elim e [ ]
 
     go : (n : Stream) → DerivesPrefix table (rule macro_end) (other_parts s) n r →
-        ((stands at_macro_name ts ≡ true) × DerivesPrefix table (plainly (name_or (w_try ∷ []))) (of_choice (first_part s)) ts n) ⊎ ((stands at_macro_name ts ≡ false) × DerivesPrefix table empty (of_choice (first_part s)) ts n) →
+        ((present at_macro_name ts ≡ true) × DerivesPrefix table (plainly (name_or (w_try ∷ []))) (of_choice (first_part s)) ts n) ⊎ ((present at_macro_name ts ≡ false) × DerivesPrefix table empty (of_choice (first_part s)) ts n) →
         name_next ts ≡ token_name (of_choice (first_part s))
-    go n b (inl (e, a)) = name_stands [] (name_or (w_try ∷ [])) (of_choice (first_part s)) ts n a
+    go n b (inl (e, a)) = name_present [] (name_or (w_try ∷ [])) (of_choice (first_part s)) ts n a
     go n b (inr (e, a)) =
         let (f, g) = nothing (of_choice (first_part s)) n a in
         ap name_next f ∙ no_name_at_end (of_rule (other_parts s)) n r (in_rule macro_end (other_parts s) n r b) ∙ sym g
@@ -384,19 +384,19 @@ macro_named : Ahead macro_as_item
 macro_named ts s r d =
     let clear : Clear before_bang a_bang = (refl, (refl, (refl, tt))) in
     let (n, e, a) = skip before_bang a_bang clear (rule attributes) _ s ts r refl d in
-    go clear n e (in_choice at_no_macro_item never (rule macro_item_rest) (behind_attributes s) n r (in_rule macro_as_item_rest _ n r a))
+    go clear n e (in_choice at_no_macro_item never (rule macro_item_rest) (after_attributes s) n r (in_rule macro_as_item_rest _ n r a))
   where
     go : Clear before_bang a_bang → (n : Stream) → past a_bang ts ≡ past a_bang n →
-        ((stands at_no_macro_item n ≡ true) × DerivesPrefix table never (of_choice (behind_attributes s)) n r) ⊎ ((stands at_no_macro_item n ≡ false) × DerivesPrefix table (rule macro_item_rest) (of_choice (behind_attributes s)) n r) →
-        name_in macro_as_item (behind_attributes s) ≡ name_ahead macro_as_item ts
-    go clear n e (inl (q, a)) = never_read (of_choice (behind_attributes s)) n r a
+        ((present at_no_macro_item n ≡ true) × DerivesPrefix table never (of_choice (after_attributes s)) n r) ⊎ ((present at_no_macro_item n ≡ false) × DerivesPrefix table (rule macro_item_rest) (of_choice (after_attributes s)) n r) →
+        name_in macro_as_item (after_attributes s) ≡ name_ahead macro_as_item ts
+    go clear n e (inl (q, a)) = never_read (of_choice (after_attributes s)) n r a
     go clear n e (inr (q, a)) =
         let (m, f, b) = skip before_bang a_bang clear (rule module_path) _ _ n r refl (in_rule macro_item_rest _ n r a) in
         let (o, g, c) = in_sequence (when at_bang then asking_punctuation exclamation else never) _ _ m r b in
-        sym (ap name_next (e ∙ f ∙ bang_passed _ m o g) ∙ macro_name_stands _ o r c)
+        sym (ap name_next (e ∙ f ∙ bang_passed _ m o g) ∙ macro_name_present _ o r c)
 
-pub names_stand_ahead : NamesStandAhead
-names_stand_ahead k ts s r i d = one_of_all Ahead (kinds_of (table item)) all k i ts s r d
+pub names_ahead : NamesAhead
+names_ahead k ts s r i d = one_of_all Ahead (kinds_of (table item)) all k i ts s r d
   where
     all : All Ahead (kinds_of (table item))
     all = (structure_named, (enumeration_named, (union_named, (function_named, (const_named, (static_named, (crate_named, (λ ts s r d. refl, (module_named, (alias_named, (type_named, (macro_named, (trait_named, (λ ts s r d. refl, (λ ts s r d. refl, (λ ts s r d. refl, tt))))))))))))))))

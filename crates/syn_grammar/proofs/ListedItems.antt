@@ -2,7 +2,7 @@
 use Rattle.std.proofs.Common.{◌≡◌, true, false, None, refl, sym, ap, ◌∙◌, subst, true≢false, ◌⊎◌, inl, inr}
 use Rattle.std.specs.Prelude.{List, [], ◌∷◌, ◌++◌}
 use Rattle.std.proofs.lemmas.List.{append-nil, append_assoc}
-use Rattle.syn_grammar.specs.Tokens.{Stream, end, ended, stands}
+use Rattle.syn_grammar.specs.Tokens.{Stream, end, ended, present}
 use Rattle.syn_grammar.specs.Rules.{Rule, inner_attributes, item, items, file}
 use Rattle.syn_grammar.specs.Grammar.{rule, ◌&◌, empty, unshown, Syntax, Nothing, Node, Case, Both, Left, Right, Unshown, DerivesPrefix}
 use Rattle.syn_grammar.specs.Table.{table}
@@ -11,12 +11,12 @@ use Rattle.syn_grammar.specs.Promises.{Refused}
 use Rattle.syn_grammar.specs.Take.{sees}
 use Rattle.syn_grammar.specs.Run.{parse_rule}
 use Rattle.syn_grammar.specs.EntryPoints.{IsKind}
-use Rattle.syn_grammar.specs.Listed.{Listed, first_part, other_parts, of_rule, of_choice, listed_item, listed_items, ListedSoFar, name_ahead, ListingBegins, ListingGoesOn, ListingEnds, ListingRefused}
+use Rattle.syn_grammar.specs.Listed.{Listed, first_part, other_parts, of_rule, of_choice, listed_item, listed_items, ListedSoFar, name_ahead, ListingBegins, ListingContinues, ListingEnds, ListingRefused}
 use Rattle.syn_grammar.proofs.Means.{means, refused}
-use Rattle.syn_grammar.proofs.Takes.{sees_stands}
+use Rattle.syn_grammar.proofs.Takes.{sees_present}
 use Rattle.syn_grammar.proofs.Proved.{one_tree}
 use Rattle.syn_grammar.proofs.Streams.{lookahead_end}
-use Rattle.syn_grammar.proofs.Listed.{in_sequence, in_rule, in_choice, names_stand_ahead}
+use Rattle.syn_grammar.proofs.Listed.{in_sequence, in_rule, in_choice, names_ahead}
 
 -- A FILE: what is never printed, inner attributes and items
 abbrev file_of : Syntax → Syntax → Syntax
@@ -41,17 +41,17 @@ of_file : (a t : Syntax) (ts m : Stream) → DerivesPrefix table (rule inner_att
 of_file a t ts m b c = (ts, (refl, refl), (ts, (refl, refl), (m, b, c)))
 
 -- an item, and the items after it
-in_items : (t : Syntax) (m : Stream) → stands ended m ≡ false → Derives items m t → (s u : Syntax) × (r : Stream) × DerivesPrefix table (rule item) s m r × Derives items r u
+in_items : (t : Syntax) (m : Stream) → present ended m ≡ false → Derives items m t → (s u : Syntax) × (r : Stream) × DerivesPrefix table (rule item) s m r × Derives items r u
 in_items t m e d = go (in_choice ended empty (rule item & rule items) (of_rule t) m end (in_rule items t m end d))
   where
-    go : ((stands ended m ≡ true) × DerivesPrefix table empty (of_choice (of_rule t)) m end) ⊎ ((stands ended m ≡ false) × DerivesPrefix table (rule item & rule items) (of_choice (of_rule t)) m end) →
+    go : ((present ended m ≡ true) × DerivesPrefix table empty (of_choice (of_rule t)) m end) ⊎ ((present ended m ≡ false) × DerivesPrefix table (rule item & rule items) (of_choice (of_rule t)) m end) →
         (s u : Syntax) × (r : Stream) × DerivesPrefix table (rule item) s m r × Derives items r u
     go (inl (f, a)) = absurd (true≢false (sym f ∙ e))
     go (inr (f, a)) = let (r, b, c) = in_sequence (rule item) (rule items) (of_choice (of_rule t)) m end a in (first_part (of_choice (of_rule t)), other_parts (of_choice (of_rule t)), r, b, c)
 
 -- a node of a kind
 as_item : (k : Rule) (t : Syntax) (m r : Stream) → IsKind item k → DerivesPrefix table (rule k) t m r → (s : Syntax) × DerivesPrefix table (rule item) (Node (Case k s)) m r × (listed_item (Node (Case k s)) ≡ (k, name_ahead k m))
-as_item k (Node s) m r i d = (s, (i, d), ap (λ n. (k, n)) (names_stand_ahead k m s r i d))
+as_item k (Node s) m r i d = (s, (i, d), ap (λ n. (k, n)) (names_ahead k m s r i d))
 as_item k _ m r i d = elim d [ ]
 
 pub listing_begins : ListingBegins
@@ -62,11 +62,11 @@ listing_begins ts a m e =
       back = λ tree f. let (b', t, m', d', c) = in_file tree ts f in (t, subst (λ z. Derives items z t) (one_tree inner_attributes ts b' b m' m d' d).1 c);
     }
 
-pub listing_goes_on : ListingGoesOn
-listing_goes_on ts l m k s r so_far e i p =
+pub listing_continues : ListingContinues
+listing_continues ts l m k s r so_far e i p =
     let (t, d, v) = (means k m s r).0 p in
     let (u, b, q) = as_item k t m r i d in
-    let n = sym (sees_stands ended m) ∙ e in
+    let n = sym (sees_present ended m) ∙ e in
     record {
       onward = λ t' c.
           let (tree, f, g) = so_far.onward (Node (Right (Both (Node (Case k u)) t'))) (n, (r, b, c)) in
@@ -79,7 +79,7 @@ listing_goes_on ts l m k s r so_far e i p =
 
 -- at the end the items are none
 no_items : (m : Stream) → sees ended m ≡ true → Derives items m (Node (Left Nothing))
-no_items m e = (sym (sees_stands ended m) ∙ e, lookahead_end m (sym (sees_stands ended m) ∙ e))
+no_items m e = (sym (sees_present ended m) ∙ e, lookahead_end m (sym (sees_present ended m) ∙ e))
 
 pub listing_ends : ListingEnds
 listing_ends ts l m so_far e =
@@ -92,7 +92,7 @@ listing_refused = (no_item, no_attributes)
     no_item : (ts : Stream) (l : List Listed) (m : Stream) → ListedSoFar ts l m → sees ended m ≡ false → parse_rule item m ≡ None → Refused file ts
     no_item ts l m so_far e p tree f =
         let (t, c) = so_far.back tree f in
-        let (s, u, r, a, b) = in_items t m (sym (sees_stands ended m) ∙ e) c in
+        let (s, u, r, a, b) = in_items t m (sym (sees_present ended m) ∙ e) c in
         refused item m p s r a
 
     no_attributes : (ts : Stream) → parse_rule inner_attributes ts ≡ None → Refused file ts

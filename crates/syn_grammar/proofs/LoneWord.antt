@@ -55,8 +55,8 @@ word_content w (punct c j sp m) e f = absurd (true≢false (sym e ∙ go c j (lo
     go c true _ = refl
 word_content w (group d o c i m) e f = absurd (true≢false (sym e))
 
-told_end : (w : Text) (i m : Stream) (sp : Span) → asked_for Before_end (asked (Word w)) ≡ (ended or_else (ended but_not ended)) → leaf_terminal (ident w) ≡ Word w → has_fact Before_end (lookahead i).facts ≡ true → i ≡ leaf (ident w) sp m → is_ended (lookahead m).terminal ≡ true
-told_end w i m sp a b e q =
+known_end : (w : Text) (i m : Stream) (sp : Span) → asked_for Before_end (asked (Word w)) ≡ (ended or_else (ended but_not ended)) → leaf_terminal (ident w) ≡ Word w → has_fact Before_end (lookahead i).facts ≡ true → i ≡ leaf (ident w) sp m → is_ended (lookahead m).terminal ≡ true
+known_end w i m sp a b e q =
     alone_true (is_ended (lookahead m).terminal)
     (ap (λ c. answers c (lookahead m)) (sym a) ∙ asked_for_is Before_end (asked (Word w)) (lookahead m) ∙ ap (λ t. has_fact Before_end (facts_for (asked t) (lookahead m))) (sym b) ∙ ap (λ z. has_fact Before_end (lookahead z).facts) (sym q) ∙ e)
 
@@ -66,11 +66,11 @@ content_alike i e =
     go h (or_split (is_word w_crate (lookahead i).terminal) _ (and_left (answers (at_word w_crate or_else at_word w_self or_else at_word w_super) (lookahead i)) _ e))
   where
     two : has_fact Before_end (lookahead i).facts ≡ true → (is_word w_self (lookahead i).terminal ≡ true) ⊎ (is_word w_super (lookahead i).terminal ≡ true) → Alike i
-    two h (inl q) = let (sp, p) = word_content w_self i q (λ m sp. told_end w_self i m sp refl refl h) in subst Alike (sym p) (self_alike sp)
-    two h (inr q) = let (sp, p) = word_content w_super i q (λ m sp. told_end w_super i m sp refl refl h) in subst Alike (sym p) (super_alike sp)
+    two h (inl q) = let (sp, p) = word_content w_self i q (λ m sp. known_end w_self i m sp refl refl h) in subst Alike (sym p) (self_alike sp)
+    two h (inr q) = let (sp, p) = word_content w_super i q (λ m sp. known_end w_super i m sp refl refl h) in subst Alike (sym p) (super_alike sp)
 
     go : has_fact Before_end (lookahead i).facts ≡ true → (is_word w_crate (lookahead i).terminal ≡ true) ⊎ (or (is_word w_self (lookahead i).terminal) (is_word w_super (lookahead i).terminal) ≡ true) → Alike i
-    go h (inl q) = let (sp, p) = word_content w_crate i q (λ m sp. told_end w_crate i m sp refl refl h) in subst Alike (sym p) (crate_alike sp)
+    go h (inl q) = let (sp, p) = word_content w_crate i q (λ m sp. known_end w_crate i m sp refl refl h) in subst Alike (sym p) (crate_alike sp)
     go h (inr q) = two h (or_split (is_word w_self (lookahead i).terminal) _ q)
 
 type_group : (o c : Span) (i r : Stream) (v : Syntax) → parse_rule types i ≡ Some (v, end) → rest (parse_rule type (group Paren o c i r)) ≡ Some r

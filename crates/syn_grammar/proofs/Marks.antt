@@ -177,18 +177,18 @@ last_asked (c ∷ []) = asked (Punctuation (c ∷ []))
 last_asked (c ∷ d ∷ []) = asked (Punctuation (d ∷ []))
 last_asked _ = []
 
-abbrev pub told_mark : Text → Bool
-told_mark (c ∷ []) = true
-told_mark (c ∷ d ∷ []) = and (same_terminal (mark_terminal (c ∷ d ∷ [])) (Punctuation (c ∷ d ∷ []))) (all_deaf d (asked (Punctuation (d ∷ []))))
-told_mark _ = false
+abbrev pub decided_mark : Text → Bool
+decided_mark (c ∷ []) = true
+decided_mark (c ∷ d ∷ []) = and (same_terminal (mark_terminal (c ∷ d ∷ [])) (Punctuation (c ∷ d ∷ []))) (all_deaf d (asked (Punctuation (d ∷ []))))
+decided_mark _ = false
 
-told_facts : (xs : List (ℕ × Span)) (ts r : Stream) (f : Lookahead) → Spelled xs ts r → told_mark (chars xs) ≡ true → (lookahead ts).terminal ≡ mark_terminal (chars xs) →
+known_facts : (xs : List (ℕ × Span)) (ts r : Stream) (f : Lookahead) → Spelled xs ts r → decided_mark (chars xs) ≡ true → (lookahead ts).terminal ≡ mark_terminal (chars xs) →
     Agree (ahead_looks (last_asked (chars xs))) (lookahead r) f → (lookahead ts).facts ≡ (mark_lookahead (chars xs) f).facts
-told_facts [] ts r f h q e A = elim h [ ]
-told_facts (x ∷ []) ts r f h q e A =
+known_facts [] ts r f h q e A = elim h [ ]
+known_facts (x ∷ []) ts r f h q e A =
     let d : char_terminal x.0 h.0 (lookahead r).terminal ≡ Punctuation (x.0 ∷ []) = ap (λ t. (lookahead t).terminal) (sym h.1) ∙ e in
     ap (λ t. (lookahead t).facts) h.1 ∙ ap (λ g. punctuation_facts x.0 g (lookahead r)) d ∙ fact_agrees (asked (Punctuation (x.0 ∷ []))) (lookahead r) f A
-told_facts (x ∷ y ∷ []) ts r f h q e A =
+known_facts (x ∷ y ∷ []) ts r f h q e A =
     let w : mark_terminal (x.0 ∷ y.0 ∷ []) ≡ Punctuation (x.0 ∷ y.0 ∷ []) = same_terminal_eq (mark_terminal (x.0 ∷ y.0 ∷ [])) (Punctuation (x.0 ∷ y.0 ∷ [])) (and_left (same_terminal (mark_terminal (x.0 ∷ y.0 ∷ [])) (Punctuation (x.0 ∷ y.0 ∷ []))) _ q) in
     let d : join x.0 (lookahead h.0).terminal ≡ Punctuation (x.0 ∷ y.0 ∷ []) = ap (λ t. (lookahead t).terminal) (sym h.1) ∙ e ∙ w in
     ap (λ t. (lookahead t).facts) h.1 ∙ ap (λ g. punctuation_facts x.0 g (lookahead h.0)) d
@@ -224,7 +224,7 @@ told_facts (x ∷ y ∷ []) ts r f h q e A =
         at (Word l) i = identifier g B
         at (Literal k) i = same_facts_for g B
         at (Delimited d v) i = same_facts_for g B
-told_facts (x ∷ y ∷ z ∷ l) ts r f h q e A = absurd (true≢false (sym q))
+known_facts (x ∷ y ∷ z ∷ l) ts r f h q e A = absurd (true≢false (sym q))
 
 -- the conditions of a token with this terminal on what follows, for these facts
 abbrev pub kept_looks : List Fact → Asked → List Look
@@ -287,18 +287,18 @@ asked_agree k f (x ∷ l) a b e h = go (or_split (same_terminal f x) (mem f l) e
     go (inr q) ih = ih q (agree_right (kept_looks k (asked x)) _ a b h)
 
 -- a token with this terminal has these facts alone
-abbrev pub tells_all : List Fact → Terminal → Bool
-tells_all k f = all_kept k (asked f)
+abbrev pub settles_all : List Fact → Terminal → Bool
+settles_all k f = all_kept k (asked f)
 
 abbrev pub token_summary : List Fact → List Terminal → Summary
-token_summary k l = record { stays = those (tells_all k) l; moves = diagonal k (those (λ f. no (tells_all k f)) l); nullable = false; gone = []; ends = all_asked k l; halts = []; shuns = [] }
+token_summary k l = record { stays = those (settles_all k) l; moves = diagonal k (those (λ f. no (settles_all k f)) l); nullable = false; gone = []; ends = all_asked k l; halts = []; shuns = [] }
 
 pub token_lookahead : (k : List Fact) (l : List Terminal) (f : Terminal) (x y ra rb : Lookahead) → mem f l ≡ true → Agree (all_asked k l) x y → HasLookaheads (token_summary k l) (lookahead_with f (facts_for (asked f) x)) (lookahead_with f (facts_for (asked f) y)) ra rb
-token_lookahead k l f x y ra rb e A = go (true_or_false (tells_all k f)) (asked_agree k f l x y e A)
+token_lookahead k l f x y ra rb e A = go (true_or_false (settles_all k f)) (asked_agree k f l x y e A)
   where
-    go : (tells_all k f ≡ true) ⊎ (tells_all k f ≡ false) → Agree (kept_looks k (asked f)) x y → HasLookaheads (token_summary k l) (lookahead_with f (facts_for (asked f) x)) (lookahead_with f (facts_for (asked f) y)) ra rb
-    go (inl q) h = alike (mem_those f (tells_all k) l q e) (ap (lookahead_with f) (fact_agrees (asked f) x y (all_kept_agree k (asked f) x y q h)))
-    go (inr q) h = altered k (mem2_diagonal k f (those (λ f. no (tells_all k f)) l) (mem_those f (λ f. no (tells_all k f)) l (ap no q) e)) (kept_facts f k k (asked f) x y (λ n e. e) h)
+    go : (settles_all k f ≡ true) ⊎ (settles_all k f ≡ false) → Agree (kept_looks k (asked f)) x y → HasLookaheads (token_summary k l) (lookahead_with f (facts_for (asked f) x)) (lookahead_with f (facts_for (asked f) y)) ra rb
+    go (inl q) h = alike (mem_those f (settles_all k) l q e) (ap (lookahead_with f) (fact_agrees (asked f) x y (all_kept_agree k (asked f) x y q h)))
+    go (inr q) h = altered k (mem2_diagonal k f (those (λ f. no (settles_all k f)) l) (mem_those f (λ f. no (settles_all k f)) l (ap no q) e)) (kept_facts f k k (asked f) x y (λ n e. e) h)
 
 abbrev pub others : Terminal → List Terminal → List Terminal
 others f l = those (λ x. no (same_terminal x f)) l
@@ -313,9 +313,9 @@ facts_of [] = []
 facts_of (p ∷ l) = p.1 ∷ facts_of l
 
 -- the facts that source and print share where this terminal is seen
-abbrev pub longer_told : Bool → Text → Terminal → List Fact
-longer_told b (c ∷ []) f = pick (and b (and (longer f) (and (no (nat_eq c 58)) (all_deaf c (asked (Punctuation (c ∷ []))))))) (facts_of (asked (Punctuation (c ∷ [])))) []
-longer_told b _ f = []
+abbrev pub longer_known : Bool → Text → Terminal → List Fact
+longer_known b (c ∷ []) f = pick (and b (and (longer f) (and (no (nat_eq c 58)) (all_deaf c (asked (Punctuation (c ∷ []))))))) (facts_of (asked (Punctuation (c ∷ [])))) []
+longer_known b _ f = []
 
 long_facts : (c : ℕ) (t : Terminal) (g : Lookahead) → longer t ≡ true → nat_eq c 58 ≡ false → punctuation_facts c t g ≡ []
 long_facts c (Punctuation (x ∷ y ∷ [])) g e q = ap (λ v. pick v (lone_facts g.terminal g.facts) []) q
@@ -352,7 +352,7 @@ each_alike [] a b e = tt
 each_alike (n ∷ k) a b e = (ap (has_fact n) e, each_alike k a b e)
 
 longer_agree : (b : Bool) (xs : List (ℕ × Span)) (ts r : Stream) (f : Lookahead) → Spelled xs ts r → Agree (pick b (ahead_looks (last_asked (chars xs))) []) (lookahead r) f →
-    Agree (each_ahead (longer_told b (chars xs) (lookahead ts).terminal)) (lookahead ts) (mark_lookahead (chars xs) f)
+    Agree (each_ahead (longer_known b (chars xs) (lookahead ts).terminal)) (lookahead ts) (mark_lookahead (chars xs) f)
 longer_agree b [] ts r f h A = elim h [ ]
 longer_agree b (x ∷ []) ts r f h A = go (and b (and (longer (lookahead ts).terminal) rest)) refl
   where
@@ -369,36 +369,36 @@ longer_agree b (x ∷ []) ts r f h A = go (and b (and (longer (lookahead ts).ter
         long_facts c (join c (lookahead r).terminal) (lookahead r) e (no_true (nat_eq c 58) (and_left (no (nat_eq c 58)) _ w))
         ∙ sym (longer_still c (lookahead r) (and_right (no (nat_eq c 58)) _ w) e) ∙ fact_agrees (asked (Punctuation (c ∷ []))) (lookahead r) f B
 
-    told : and b (and (longer (lookahead ts).terminal) rest) ≡ true → (lookahead ts).facts ≡ facts_for (asked (Punctuation (c ∷ []))) f
-    told e =
+    reported : and b (and (longer (lookahead ts).terminal) rest) ≡ true → (lookahead ts).facts ≡ facts_for (asked (Punctuation (c ∷ []))) f
+    reported e =
         let w = and_right b _ e in
         let l : longer (char_terminal c h.0 (lookahead r).terminal) ≡ true = ap (λ t. longer (lookahead t).terminal) (sym h.1) ∙ and_left (longer (lookahead ts).terminal) _ w in
         ap (λ t. (lookahead t).facts) h.1
         ∙ seen h.0 l (and_right (longer (lookahead ts).terminal) _ w) (subst (λ v. Agree (pick v (ahead_looks (asked (Punctuation (c ∷ [])))) []) (lookahead r) f) (and_left b _ e) A)
 
-    go : (v : Bool) → and b (and (longer (lookahead ts).terminal) rest) ≡ v → Agree (each_ahead (longer_told b (c ∷ []) (lookahead ts).terminal)) (lookahead ts) (punctuation_lookahead c false f)
-    go true e = each_alike (longer_told b (c ∷ []) (lookahead ts).terminal) (lookahead ts) (punctuation_lookahead c false f) (told e)
+    go : (v : Bool) → and b (and (longer (lookahead ts).terminal) rest) ≡ v → Agree (each_ahead (longer_known b (c ∷ []) (lookahead ts).terminal)) (lookahead ts) (punctuation_lookahead c false f)
+    go true e = each_alike (longer_known b (c ∷ []) (lookahead ts).terminal) (lookahead ts) (punctuation_lookahead c false f) (reported e)
     go false e = subst (λ v. Agree (each_ahead (pick v (facts_of (asked (Punctuation (c ∷ [])))) [])) (lookahead ts) (punctuation_lookahead c false f)) (sym e) tt
 longer_agree b (x ∷ y ∷ l) ts r f h A = tt
 
 -- these terminals before this one, each with the facts that source and print share
-abbrev pub told_moves : (Terminal → List Fact) → List Terminal → Terminal → List Move
-told_moves t [] x = []
-told_moves t (f ∷ l) x = move f x (t f) ∷ told_moves t l x
+abbrev pub known_moves : (Terminal → List Fact) → List Terminal → Terminal → List Move
+known_moves t [] x = []
+known_moves t (f ∷ l) x = move f x (t f) ∷ known_moves t l x
 
-told_in : (t : Terminal → List Fact) (f x : Terminal) (l : List Terminal) → mem f l ≡ true → mem2 (move f x (t f)) (told_moves t l x) ≡ true
-told_in t f x [] e = absurd (true≢false (sym e))
-told_in t f x (y ∷ l) e = go (or_split (same_terminal f y) (mem f l) e) (told_in t f x l)
+known_in : (t : Terminal → List Fact) (f x : Terminal) (l : List Terminal) → mem f l ≡ true → mem2 (move f x (t f)) (known_moves t l x) ≡ true
+known_in t f x [] e = absurd (true≢false (sym e))
+known_in t f x (y ∷ l) e = go (or_split (same_terminal f y) (mem f l) e) (known_in t f x l)
   where
-    go : (same_terminal f y ≡ true) ⊎ (mem f l ≡ true) → (mem f l ≡ true → mem2 (move f x (t f)) (told_moves t l x) ≡ true) → mem2 (move f x (t f)) (told_moves t (y ∷ l) x) ≡ true
-    go (inl q) ih = subst (λ z. mem2 (move f x (t f)) (move z x (t z) ∷ told_moves t l x) ≡ true) (same_terminal_eq f y q) (mem2_here (move f x (t f)) (told_moves t l x))
+    go : (same_terminal f y ≡ true) ⊎ (mem f l ≡ true) → (mem f l ≡ true → mem2 (move f x (t f)) (known_moves t l x) ≡ true) → mem2 (move f x (t f)) (known_moves t (y ∷ l) x) ≡ true
+    go (inl q) ih = subst (λ z. mem2 (move f x (t f)) (move z x (t z) ∷ known_moves t l x) ≡ true) (same_terminal_eq f y q) (mem2_here (move f x (t f)) (known_moves t l x))
     go (inr q) ih = or_right (same_move (move f x (t f)) (move y x (t y))) _ (ih q)
 
 -- true: the lookahead of the mark may be tested for what follows it
 abbrev pub mark_summary : Bool → Text → List Look → Summary
-mark_summary b cs A = let s = or (quiet_mark cs) (and b (told_mark cs)) in record {
+mark_summary b cs A = let s = or (quiet_mark cs) (and b (decided_mark cs)) in record {
   stays = pick s (mark_terminal cs ∷ []) [];
-  moves = told_moves (longer_told b cs) (pick s (others (mark_terminal cs) (mark_first_set cs)) (mark_first_set cs)) (mark_terminal cs);
+  moves = known_moves (longer_known b cs) (pick s (others (mark_terminal cs) (mark_first_set cs)) (mark_first_set cs)) (mark_terminal cs);
   nullable = false;
   gone = [];
   ends = pick b (ahead_looks (last_asked cs)) [] ++ A;
@@ -410,18 +410,18 @@ some_chars : (xs : List (ℕ × Span)) (ts r : Stream) → Spelled xs ts r → s
 some_chars [] ts r h = elim h [ ]
 some_chars (x ∷ l) ts r h = refl
 
-mark_alike : (b : Bool) (xs : List (ℕ × Span)) (ts r : Stream) (f : Lookahead) → Spelled xs ts r → or (quiet_mark (chars xs)) (and b (told_mark (chars xs))) ≡ true → (lookahead ts).terminal ≡ mark_terminal (chars xs) →
+mark_alike : (b : Bool) (xs : List (ℕ × Span)) (ts r : Stream) (f : Lookahead) → Spelled xs ts r → or (quiet_mark (chars xs)) (and b (decided_mark (chars xs))) ≡ true → (lookahead ts).terminal ≡ mark_terminal (chars xs) →
     Agree (pick b (ahead_looks (last_asked (chars xs))) []) (lookahead r) f → lookahead ts ≡ mark_lookahead (chars xs) f
 mark_alike b xs ts r f d w e A = ap₂ lookahead_with (e ∙ sym (lookahead_terminal (chars xs) f (some_chars xs ts r d))) (go b (or_split (quiet_mark (chars xs)) _ w) A)
   where
-    go : (b : Bool) → (quiet_mark (chars xs) ≡ true) ⊎ (and b (told_mark (chars xs)) ≡ true) → Agree (pick b (ahead_looks (last_asked (chars xs))) []) (lookahead r) f → (lookahead ts).facts ≡ (mark_lookahead (chars xs) f).facts
+    go : (b : Bool) → (quiet_mark (chars xs) ≡ true) ⊎ (and b (decided_mark (chars xs)) ≡ true) → Agree (pick b (ahead_looks (last_asked (chars xs))) []) (lookahead r) f → (lookahead ts).facts ≡ (mark_lookahead (chars xs) f).facts
     go b (inl q) A = source_still xs ts r d q e ∙ sym (printed_still (chars xs) f (some_chars xs ts r d) q)
-    go true (inr q) A = told_facts xs ts r f d q e A
+    go true (inr q) A = known_facts xs ts r f d q e A
     go false (inr q) A = absurd (true≢false (sym q))
 
 marks_lookahead : (b : Bool) (A : List Look) (xs : List (ℕ × Span)) (ts r r' : Stream) (ra rb : Lookahead) → Spelled xs ts r → Agree (pick b (ahead_looks (last_asked (chars xs))) []) (lookahead r) (lookahead r') →
     HasLookaheads (mark_summary b (chars xs) A) (lookahead ts) (lookahead (spell xs r')) ra rb
-marks_lookahead b A xs ts r r' ra rb d B = subst (λ z. HasLookaheads (mark_summary b cs A) (lookahead ts) z ra rb) (sym (lookahead_spell xs r')) (go (or (quiet_mark cs) (and b (told_mark cs))) refl (true_or_false (same_terminal (lookahead ts).terminal (mark_terminal cs))))
+marks_lookahead b A xs ts r r' ra rb d B = subst (λ z. HasLookaheads (mark_summary b cs A) (lookahead ts) z ra rb) (sym (lookahead_spell xs r')) (go (or (quiet_mark cs) (and b (decided_mark cs))) refl (true_or_false (same_terminal (lookahead ts).terminal (mark_terminal cs))))
   where
     cs : Text
     cs = chars xs
@@ -436,19 +436,19 @@ marks_lookahead b A xs ts r r' ra rb d B = subst (λ z. HasLookaheads (mark_summ
     head = mark_head xs ts r d
 
     k : List Fact
-    k = longer_told b cs (lookahead ts).terminal
+    k = longer_known b cs (lookahead ts).terminal
 
-    crossed : (l : List Terminal) → mem (lookahead ts).terminal l ≡ true → mem2 (move (lookahead ts).terminal printed.terminal k) (told_moves (longer_told b cs) l (mark_terminal cs)) ≡ true
-    crossed l h = subst (λ z. mem2 (move (lookahead ts).terminal z k) (told_moves (longer_told b cs) l (mark_terminal cs)) ≡ true) (sym terminal) (told_in (longer_told b cs) (lookahead ts).terminal (mark_terminal cs) l h)
+    crossed : (l : List Terminal) → mem (lookahead ts).terminal l ≡ true → mem2 (move (lookahead ts).terminal printed.terminal k) (known_moves (longer_known b cs) l (mark_terminal cs)) ≡ true
+    crossed l h = subst (λ z. mem2 (move (lookahead ts).terminal z k) (known_moves (longer_known b cs) l (mark_terminal cs)) ≡ true) (sym terminal) (known_in (longer_known b cs) (lookahead ts).terminal (mark_terminal cs) l h)
 
     agreed : Agree (each_ahead k) (lookahead ts) printed
     agreed = longer_agree b xs ts r (lookahead r') d B
 
-    go : (v : Bool) → or (quiet_mark cs) (and b (told_mark cs)) ≡ v → (same_terminal (lookahead ts).terminal (mark_terminal cs) ≡ true) ⊎ (same_terminal (lookahead ts).terminal (mark_terminal cs) ≡ false) →
+    go : (v : Bool) → or (quiet_mark cs) (and b (decided_mark cs)) ≡ v → (same_terminal (lookahead ts).terminal (mark_terminal cs) ≡ true) ⊎ (same_terminal (lookahead ts).terminal (mark_terminal cs) ≡ false) →
         HasLookaheads (mark_summary b cs A) (lookahead ts) printed ra rb
     go true w (inl q) = alike (subst (λ v. mem (lookahead ts).terminal (pick v (mark_terminal cs ∷ []) []) ≡ true) (sym w) (or_left (same_terminal (lookahead ts).terminal (mark_terminal cs)) false q)) (mark_alike b xs ts r (lookahead r') d w (same_terminal_eq (lookahead ts).terminal (mark_terminal cs) q) B)
-    go true w (inr q) = altered k (subst (λ v. mem2 (move (lookahead ts).terminal printed.terminal k) (told_moves (longer_told b cs) (pick v (others (mark_terminal cs) (mark_first_set cs)) (mark_first_set cs)) (mark_terminal cs)) ≡ true) (sym w) (crossed (others (mark_terminal cs) (mark_first_set cs)) (mem_those (lookahead ts).terminal (λ x. no (same_terminal x (mark_terminal cs))) (mark_first_set cs) (ap no q) head))) agreed
-    go false w q = altered k (subst (λ v. mem2 (move (lookahead ts).terminal printed.terminal k) (told_moves (longer_told b cs) (pick v (others (mark_terminal cs) (mark_first_set cs)) (mark_first_set cs)) (mark_terminal cs)) ≡ true) (sym w) (crossed (mark_first_set cs) head)) agreed
+    go true w (inr q) = altered k (subst (λ v. mem2 (move (lookahead ts).terminal printed.terminal k) (known_moves (longer_known b cs) (pick v (others (mark_terminal cs) (mark_first_set cs)) (mark_first_set cs)) (mark_terminal cs)) ≡ true) (sym w) (crossed (others (mark_terminal cs) (mark_first_set cs)) (mem_those (lookahead ts).terminal (λ x. no (same_terminal x (mark_terminal cs))) (mark_first_set cs) (ap no q) head))) agreed
+    go false w q = altered k (subst (λ v. mem2 (move (lookahead ts).terminal printed.terminal k) (known_moves (longer_known b cs) (pick v (others (mark_terminal cs) (mark_first_set cs)) (mark_first_set cs)) (mark_terminal cs)) ≡ true) (sym w) (crossed (mark_first_set cs) head)) agreed
 
 pub marked : (b : Bool) (cs : Text) (A : List Look) (xs : List (ℕ × Span)) (ts r r' : Stream) (ra rb : Lookahead) → chars xs ≡ cs → Spelled xs ts r → Agree (pick b (ahead_looks (last_asked cs)) []) (lookahead r) (lookahead r') →
     HasLookaheads (mark_summary b cs A) (lookahead ts) (lookahead (spell xs r')) ra rb

@@ -1,7 +1,7 @@
 -- From the contracts between parsers to the contracts of public calls.
 use Rattle.std.proofs.Common.{◌≡◌, Bool, true, false, Some, None, refl, sym, ap, ◌∙◌, subst}
 use Rattle.std.specs.Prelude.{Result, Ok, Err}
-use Rattle.syn_grammar.specs.Tokens.{Stream, end, ◌⧺◌, visible, Look, stands}
+use Rattle.syn_grammar.specs.Tokens.{Stream, end, ◌⧺◌, visible, Look, present}
 use Rattle.syn_grammar.specs.Rules.{Rule}
 use Rattle.syn_grammar.specs.Grammar.{Syntax, Nothing, Captured, captured, Left, Right, Grammar, DerivesPrefix, rule, empty, when◌then◌else◌}
 use Rattle.syn_grammar.specs.Table.{table}
@@ -14,7 +14,7 @@ use Rattle.syn_grammar.proofs.Proved.{one_tree}
 use Rattle.syn_grammar.proofs.Said.{start_of}
 use Rattle.syn_grammar.proofs.Run.{parse_rule_is, row_is, weaker, parse_rule_less}
 use Rattle.syn_grammar.proofs.Takes.{sees_is, end_found}
-use Rattle.syn_grammar.proofs.Means.{told, found}
+use Rattle.syn_grammar.proofs.Means.{reported, found}
 
 -- nothing is computed where nothing is read
 computes_none : (g : Grammar) (ts : Stream) → NotDerived g ts → parse_form g ts ≡ None
@@ -22,12 +22,12 @@ computes_none g ts u = go (parse_form g ts) refl
   where
     go : (o : Out) → parse_form g ts ≡ o → o ≡ None
     go None e = refl
-    go (Some p) e = let t = told g ts p e in absurd (u t.0 p.1 t.1)
+    go (Some p) e = let t = reported g ts p e in absurd (u t.0 p.1 t.1)
 
 -- the computed reading of every form whose unions are apart agrees with its derivations
 pub meaning_of : (g : Grammar) → sound table start_of g ≡ true → Meaning g
 meaning_of g w ts v = (
-  λ s r. (λ e. told g ts (s, r) e, λ (t, a, f). found g t ts r w a ∙ ap (λ z. Some (z, r)) f),
+  λ s r. (λ e. reported g ts (s, r) e, λ (t, a, f). found g t ts r w a ∙ ap (λ z. Some (z, r)) f),
   (λ e s r a. absurd (cc (sym e ∙ found g s ts r w a)), computes_none g ts),
 )
 
@@ -88,13 +88,13 @@ none_some e = absurd (cc e)
 
 -- the computed reading of an optional part agrees with its derivations, if that of the part does
 pub meaning_of_optional : (c : Look) (g : Grammar) → Meaning g → Meaning (when c then g else empty)
-meaning_of_optional c g m ts v = (λ s r. (told_of s r, found_of s r), (none_of, of_none))
+meaning_of_optional c g m ts v = (λ s r. (known_of s r, found_of s r), (none_of, of_none))
   where
-    here : (b : Bool) → sees c ts ≡ b → stands c ts ≡ b
+    here : (b : Bool) → sees c ts ≡ b → present c ts ≡ b
     here b e = sym (sees_is c ts v) ∙ e
 
-    told_at : (b : Bool) → sees c ts ≡ b → (s : Syntax) (r : Stream) → branch b (parse_form g ts) (Some (Nothing, ts)) ≡ Some (s, r) → DerivesValue (when c then g else empty) s ts r
-    told_at true e s r q = go (parse_form g ts) refl q
+    known_at : (b : Bool) → sees c ts ≡ b → (s : Syntax) (r : Stream) → branch b (parse_form g ts) (Some (Nothing, ts)) ≡ Some (s, r) → DerivesValue (when c then g else empty) s ts r
+    known_at true e s r q = go (parse_form g ts) refl q
       where
         go : (o : Out) → parse_form g ts ≡ o → wrap Left o ≡ Some (s, r) → DerivesValue (when c then g else empty) s ts r
         go None f q = absurd (cc q)
@@ -102,14 +102,14 @@ meaning_of_optional c g m ts v = (λ s r. (told_of s r, found_of s r), (none_of,
             let (t, a, h) = ((m ts v).0 p.0 p.1).0 f in
             let same = both_same (Left p.0) s p.1 r q in
             (Left t, (here true e, subst (λ z. DerivesPrefix table g t ts z) same.1 a), ap Left h ∙ same.0)
-    told_at false e s r q =
+    known_at false e s r q =
         let same = both_same (Right Nothing) s ts r q in
         (Right Nothing, (here false e, same.1), same.0)
 
-    told_of : (s : Syntax) (r : Stream) → parse_form (when c then g else empty) ts ≡ Some (s, r) → DerivesValue (when c then g else empty) s ts r
-    told_of s r q = told_at (sees c ts) refl s r q
+    known_of : (s : Syntax) (r : Stream) → parse_form (when c then g else empty) ts ≡ Some (s, r) → DerivesValue (when c then g else empty) s ts r
+    known_of s r q = known_at (sees c ts) refl s r q
 
-    found_right : (t s : Syntax) (r : Stream) → stands c ts ≡ false → DerivesPrefix table empty t ts r → Right (value_of t) ≡ s → parse_form (when c then g else empty) ts ≡ Some (s, r)
+    found_right : (t s : Syntax) (r : Stream) → present c ts ≡ false → DerivesPrefix table empty t ts r → Right (value_of t) ≡ s → parse_form (when c then g else empty) ts ≡ Some (s, r)
     found_right Nothing s r e a f =
         ap (λ b. branch b (parse_form g ts) (Some (Nothing, ts))) (sees_is c ts v ∙ e) ∙ ap (λ z. Some (Right Nothing, z)) a ∙ ap (λ z. Some (z, r)) f
     found_right _ s r e a f = elim a [ ]
@@ -131,7 +131,7 @@ meaning_of_optional c g m ts v = (λ s r. (told_of s r, found_of s r), (none_of,
       where
         go : (o : Out) → parse_form (when c then g else empty) ts ≡ o → o ≡ None
         go None e = refl
-        go (Some p) e = let t = told_of p.0 p.1 e in absurd (u t.0 p.1 t.1)
+        go (Some p) e = let t = known_of p.0 p.1 e in absurd (u t.0 p.1 t.1)
 
 -- OF A WHOLE STREAM: the parser returned a value, and nothing is left
 pub whole_ok : (g : Grammar) → Meaning g → (ts : Stream) (s : Syntax) → visible ts ≡ true → parse_form g ts ≡ Some (s, end) → DerivesWholeValue g s ts

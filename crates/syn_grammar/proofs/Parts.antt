@@ -206,8 +206,8 @@ sure_first c p a b ra rb w (passed v e f) = inr (solid_off p v, f)
 sure_first c p a b ra rb w (vanished v f) = inr (and_off_right (no p.nullable) _ (ap no (filled_off a.terminal p.gone v)), f)
 
 -- the print begins with one of these terminals, or with those of what follows it
-pub printed_behind : (q : Summary) (A : List Terminal) (a b ra rb : Lookahead) → mem rb.terminal A ≡ true → HasLookaheads q a b ra rb → mem b.terminal (prints q ++ A) ≡ true
-printed_behind q A a b ra rb m (alike e f) = mem_left b.terminal (prints q) A (printed_mem q a b ra rb (e, f))
-printed_behind q A a b ra rb m (altered k e h) = mem_left b.terminal (prints q) A (mem_right b.terminal q.stays _ (mem_seconds (move a.terminal b.terminal k) q.moves e))
-printed_behind q A a b ra rb m (passed v e f) = mem_right b.terminal (prints q) A (ap (λ z. mem z.terminal A) f ∙ m)
-printed_behind q A a b ra rb m (vanished v f) = mem_right b.terminal (prints q) A (ap (λ z. mem z.terminal A) f ∙ m)
+pub printed_after : (q : Summary) (A : List Terminal) (a b ra rb : Lookahead) → mem rb.terminal A ≡ true → HasLookaheads q a b ra rb → mem b.terminal (prints q ++ A) ≡ true
+printed_after q A a b ra rb m (alike e f) = mem_left b.terminal (prints q) A (printed_mem q a b ra rb (e, f))
+printed_after q A a b ra rb m (altered k e h) = mem_left b.terminal (prints q) A (mem_right b.terminal q.stays _ (mem_seconds (move a.terminal b.terminal k) q.moves e))
+printed_after q A a b ra rb m (passed v e f) = mem_right b.terminal (prints q) A (ap (λ z. mem z.terminal A) f ∙ m)
+printed_after q A a b ra rb m (vanished v f) = mem_right b.terminal (prints q) A (ap (λ z. mem z.terminal A) f ∙ m)

@@ -6,7 +6,7 @@ use Rattle.syn_grammar.proofs.Streams.{lookahead_plain}
 use Rattle.syn_grammar.specs.Rules.{Rule}
 use Rattle.syn_grammar.specs.SelfTypes.{self_types}
 use Rattle.syn_grammar.specs.RuleNumbers.{same_rule}
-use Rattle.syn_grammar.specs.Grammar.{among, Syntax, Nothing, Token, Mark, Lifetime, Both, Left, Right, Node, Vanishing, Group, Raw, Rest, Case, Captured, Unshown, Impl, no_generics, Added, Done, Last, More, Order, Such, vacant, ends_brace, holds, Test, trailing_brace, no_trailing_brace, has, has_no, one_where, has_part, no_where, at_most_one_where, chars, spell, added, bare, show, behind, sort, print, renew, plain_mark, plain_syntax, normal, Shaped, led_part, led}
+use Rattle.syn_grammar.specs.Grammar.{among, Syntax, Nothing, Token, Mark, Lifetime, Both, Left, Right, Node, Vanishing, Group, Raw, Rest, Case, Captured, Unshown, Impl, no_generics, Added, Done, Last, More, Order, Such, vacant, ends_brace, holds, Test, trailing_brace, no_trailing_brace, has, has_no, one_where, has_part, no_where, at_most_one_where, chars, spell, added, bare, show, following, sort, print, renew, plain_mark, plain_syntax, normal, Shaped, led_part, led}
 
 pub plain_append : (a b : Stream) → plain (a ⧺ b) ≡ plain a ⧺ plain b
 plain_append end b = refl
@@ -67,14 +67,14 @@ or_holds : (b : Bool) → or b true ≡ true
 or_holds true = refl
 or_holds false = refl
 
-bare_behind : (s : Syntax) (sp : Span) (t : Syntax) → bare (behind s sp t) ≡ false
-bare_behind s sp (More true x q u) = refl
-bare_behind s sp (Last true x) = refl
-bare_behind s sp _ = refl
+bare_after : (s : Syntax) (sp : Span) (t : Syntax) → bare (following s sp t) ≡ false
+bare_after s sp (More true x q u) = refl
+bare_after s sp (Last true x) = refl
+bare_after s sp _ = refl
 
 bare_sort : (s : Syntax) → bare (sort s) ≡ bare s
 bare_sort (More true s sp t) = refl
-bare_sort (More false s sp t) = bare_behind s sp (sort t)
+bare_sort (More false s sp t) = bare_after s sp (sort t)
 bare_sort _ = refl
 
 pub bare_renew : (s : Syntax) → bare (renew s) ≡ bare s
@@ -132,35 +132,35 @@ show_plain (More k s sp t) = ap₂ (λ a b. a ⧺ punct 44 false call_site b) (s
 show_plain (Order xs l ys) =
     ap₂ (λ a b. spell (plain_mark xs) (a ⧺ b)) (show_plain l) (plain_spell ys end) ∙ ap (spell (plain_mark xs)) (sym (plain_append (show l) (spell ys end))) ∙ plain_spell xs (show l ⧺ spell ys end)
 
-renew_behind : (s : Syntax) (sp : Span) (t : Syntax) → renew (behind s sp t) ≡ behind (renew s) sp (renew t)
-renew_behind s sp (More true x q u) = ap (More true (renew x) q) (renew_behind s sp u)
-renew_behind s sp (Last true x) = refl
-renew_behind s sp _ = refl
+renew_after : (s : Syntax) (sp : Span) (t : Syntax) → renew (following s sp t) ≡ following (renew s) sp (renew t)
+renew_after s sp (More true x q u) = ap (More true (renew x) q) (renew_after s sp u)
+renew_after s sp (Last true x) = refl
+renew_after s sp _ = refl
 
 renew_sort : (s : Syntax) → renew (sort s) ≡ sort (renew s)
 renew_sort (More true s sp t) = ap (More true (renew s) sp) (renew_sort t)
-renew_sort (More false s sp t) = renew_behind s sp (sort t) ∙ ap (behind (renew s) sp) (renew_sort t)
+renew_sort (More false s sp t) = renew_after s sp (sort t) ∙ ap (following (renew s) sp) (renew_sort t)
 renew_sort _ = refl
 
-sort_behind : (s : Syntax) (sp : Span) (t : Syntax) → sort t ≡ t → sort (behind s sp t) ≡ behind s sp t
-sort_behind s sp (More true x q u) e = ap (More true x q) (sort_behind s sp u (cc (e)))
-sort_behind s sp (More false x q u) e = ap (behind s sp) e
-sort_behind s sp (Last true x) e = refl
-sort_behind s sp _ e = refl
+sort_after : (s : Syntax) (sp : Span) (t : Syntax) → sort t ≡ t → sort (following s sp t) ≡ following s sp t
+sort_after s sp (More true x q u) e = ap (More true x q) (sort_after s sp u (cc (e)))
+sort_after s sp (More false x q u) e = ap (following s sp) e
+sort_after s sp (Last true x) e = refl
+sort_after s sp _ e = refl
 
 sort_sort : (s : Syntax) → sort (sort s) ≡ sort s
 sort_sort (More true s sp t) = ap (More true s sp) (sort_sort t)
-sort_sort (More false s sp t) = sort_behind s sp (sort t) (sort_sort t)
+sort_sort (More false s sp t) = sort_after s sp (sort t) (sort_sort t)
 sort_sort _ = refl
 
-plain_behind : (s : Syntax) (sp : Span) (t : Syntax) → plain_syntax (behind s sp t) ≡ behind (plain_syntax s) call_site (plain_syntax t)
-plain_behind s sp (More true x q u) = ap (More true (plain_syntax x) call_site) (plain_behind s sp u)
-plain_behind s sp (Last true x) = refl
-plain_behind s sp _ = refl
+plain_after : (s : Syntax) (sp : Span) (t : Syntax) → plain_syntax (following s sp t) ≡ following (plain_syntax s) call_site (plain_syntax t)
+plain_after s sp (More true x q u) = ap (More true (plain_syntax x) call_site) (plain_after s sp u)
+plain_after s sp (Last true x) = refl
+plain_after s sp _ = refl
 
 plain_sort : (s : Syntax) → plain_syntax (sort s) ≡ sort (plain_syntax s)
 plain_sort (More true s sp t) = ap (More true (plain_syntax s) call_site) (plain_sort t)
-plain_sort (More false s sp t) = plain_behind s sp (sort t) ∙ ap (behind (plain_syntax s) call_site) (plain_sort t)
+plain_sort (More false s sp t) = plain_after s sp (sort t) ∙ ap (following (plain_syntax s) call_site) (plain_sort t)
 plain_sort _ = refl
 
 led_part_plain : (s : Syntax) → led_part (plain_syntax s) ≡ led_part s

@@ -3,7 +3,7 @@ use Rattle.std.proofs.Common.{◌≡◌, Bool, true, false, refl, sym, ap, ap₂
 use Rattle.syn_grammar.specs.Tokens.{Paren, Bracket, call_site}
 use Rattle.syn_grammar.specs.Shape.{Path, Binary, Assign, Cast, Macro, Shape, expr, bracketed, dotted, fields, choice, chain, leading, labelled, attributed, listed, lone, said, said_macro, a_local, an_item, untagged, parameters, based, single}
 use Rattle.syn_grammar.specs.Grammar.{Syntax, Nothing, Mark, Both, Left, Right, Node, Vanishing, Case, Such, Group, Captured, Unshown, Impl, Last, More, Order, Shaped, plain_syntax, plain_mark}
-use Rattle.syn_grammar.specs.Values.{new, core, variant_of, member_variant, literal_of, onto, attributes_before, with_attributes, with_label, moved, with_outer, kept_whole, sentence, alone, state, no_statements, listing, going_on, go_on, in_list, more_members, member, behind_colon, typed, parameter_of, parameters_of, no_base, literal_fields_of, shape}
+use Rattle.syn_grammar.specs.Values.{new, core, variant_of, member_variant, literal_of, onto, attributes_before, with_attributes, with_label, moved, with_outer, kept_whole, sentence, alone, state, no_statements, listing, going_on, go_on, in_list, more_members, member, after_colon, typed, parameter_of, parameters_of, no_base, literal_fields_of, shape}
 use Rattle.syn_grammar.specs.Run.{value_of}
 
 plain_core : (s : Syntax) → plain_syntax (core s) ≡ core (plain_syntax s)
@@ -120,14 +120,14 @@ members_plain j b x (Left (Both comma l)) = more_members_plain j x comma l
 members_plain j b x (Right n) = refl
 members_plain j b x _ = refl
 
-behind_colon_plain : (a p c s : Syntax) → plain_syntax (behind_colon a p c s) ≡ behind_colon (plain_syntax a) (plain_syntax p) (plain_syntax c) (plain_syntax s)
-behind_colon_plain a p c (Left v) = refl
-behind_colon_plain a p c (Right (Both t e)) = members_plain parameters (Right Nothing) (Node (Both a (Right (Both p (Both c t))))) e
-behind_colon_plain a p c _ = refl
+after_colon_plain : (a p c s : Syntax) → plain_syntax (after_colon a p c s) ≡ after_colon (plain_syntax a) (plain_syntax p) (plain_syntax c) (plain_syntax s)
+after_colon_plain a p c (Left v) = refl
+after_colon_plain a p c (Right (Both t e)) = members_plain parameters (Right Nothing) (Node (Both a (Right (Both p (Both c t))))) e
+after_colon_plain a p c _ = refl
 
 typed_plain : (a s : Syntax) → plain_syntax (typed a s) ≡ typed (plain_syntax a) (plain_syntax s)
 typed_plain a (Left v) = refl
-typed_plain a (Right (Both p (Both c s))) = behind_colon_plain a p c s
+typed_plain a (Right (Both p (Both c s))) = after_colon_plain a p c s
 typed_plain a _ = refl
 
 parameter_plain : (a s : Syntax) → plain_syntax (parameter_of a s) ≡ parameter_of (plain_syntax a) (plain_syntax s)

@@ -13,7 +13,7 @@ use Rattle.syn_grammar.proofs.FormEquality.{same_test}
 use Rattle.syn_grammar.proofs.Streams.{append_end, append_append}
 use Rattle.syn_grammar.proofs.Shapes.{show_sum, sum_shape}
 use Rattle.syn_grammar.proofs.Known.{Known, clash, noted, some_is}
-use Rattle.syn_grammar.proofs.Threads.{Ends, Fits, Frame, Provided, State, Thread, Tried, TriedAll, alive, and_behind, and_next, back, beside, bound, calm, chosen, contrary, dead, eat, eat_list, eat_thread, eaten, finish, frames_is, fuel, holding, in_case, in_left, in_node, in_right, in_shape, in_such, in_vanishing, listed, matches, of_kept, of_kind, only_is, paired, passed, passed_state, reading, state_is, step, verdict, with_generics, with_state}
+use Rattle.syn_grammar.proofs.Threads.{Ends, Fits, Frame, Provided, State, Thread, Tried, TriedAll, alive, and_after, and_next, back, beside, bound, calm, chosen, contrary, dead, eat, eat_list, eat_thread, eaten, finish, frames_is, fuel, holding, in_case, in_left, in_node, in_right, in_shape, in_such, in_vanishing, listed, matches, of_kept, of_kind, only_is, paired, passed, passed_state, reading, state_is, step, verdict, with_generics, with_state}
 
 -- ---- THE SHOWN TOKENS of a plan's value are those of its pieces, one after another
 
@@ -31,7 +31,7 @@ shown_of (holding s k) = wrote k (show s)
 back_shows : (q : Bool) (k : List Frame) (s : Syntax) → calm q k ≡ true → (q ≡ true → show s ≡ end) → shown_of (back k s) ≡ wrote k (show s)
 back_shows q [] s c h = refl
 back_shows q (and_next x ∷ k) s c h = ap (wrote k) (append_end (show s))
-back_shows q (and_behind x ∷ k) s c h = ap (wrote k) (append_end (show s))
+back_shows q (and_after x ∷ k) s c h = ap (wrote k) (append_end (show s))
 back_shows q (in_such t ∷ k) s c h = refl
 back_shows q (beside t ∷ k) s c h = back_shows false k (Both t s) c (λ e. absurd (true≢false (sym e)))
 back_shows q (with_generics t ∷ k) s c h = back_shows false k (Impl t s) c (λ e. absurd (true≢false (sym e)))
@@ -60,7 +60,7 @@ step_shows l empty k t e = let i = only_is (calm true k) (back k Nothing) t e in
 step_shows l unshown k t e = let i = only_is (calm true k) (back k (Unshown Nothing)) t e in sym (back_shows true k (Unshown Nothing) i.0 (λ e. refl)) ∙ ap shown_of (state_is (back k (Unshown Nothing)) t i.1)
 step_shows l (shaped j x) k t e = ap shown_of (state_is (reading x (in_shape j ∷ k)) t e)
 step_shows l (such q x) k t e = ap shown_of (state_is (reading x (in_such q ∷ k)) t e)
-step_shows l (generics_before x y h) k t e = ap shown_of (state_is (reading (opt_generics x y) (and_behind h ∷ k)) t e)
+step_shows l (generics_before x y h) k t e = ap shown_of (state_is (reading (opt_generics x y) (and_after h ∷ k)) t e)
 step_shows l (one_of []) k t e = absurd (cc e)
 step_shows l (one_of (r ∷ [])) k t e = ap shown_of (state_is (reading (table r) (in_case r ∷ k)) t e)
 step_shows l (one_of (r ∷ q ∷ x)) k t e = absurd (cc e)
@@ -104,7 +104,7 @@ wrote_end [] x = refl
 wrote_end (beside t ∷ k) x = wrote_end k (show t ⧺ x) ∙ sym (append_append (wrote k end) (show t) x) ∙ ap (λ z. z ⧺ x) (sym (wrote_end k (show t)) ∙ ap (wrote k) (sym (append_end (show t))))
 wrote_end (with_generics t ∷ k) x = wrote_end k (show t ⧺ x) ∙ sym (append_append (wrote k end) (show t) x) ∙ ap (λ z. z ⧺ x) (sym (wrote_end k (show t)) ∙ ap (wrote k) (sym (append_end (show t))))
 wrote_end (and_next h ∷ k) x = wrote_end k x
-wrote_end (and_behind h ∷ k) x = wrote_end k x
+wrote_end (and_after h ∷ k) x = wrote_end k x
 wrote_end (in_left ∷ k) x = wrote_end k x
 wrote_end (in_right ∷ k) x = wrote_end k x
 wrote_end (in_node ∷ k) x = wrote_end k x
@@ -183,7 +183,7 @@ passed_state_shows q s b (holding u (in_node ∷ k)) t w h = elim w [ ]
 passed_state_shows q s b (holding u (in_case x ∷ k)) t w h = elim w [ ]
 passed_state_shows q s b (holding u (in_shape x ∷ k)) t w h = elim w [ ]
 passed_state_shows q s b (holding u (in_vanishing x ∷ k)) t w h = elim w [ ]
-passed_state_shows q s b (holding u (and_behind x ∷ k)) t w h = elim w [ ]
+passed_state_shows q s b (holding u (and_after x ∷ k)) t w h = elim w [ ]
 passed_state_shows q s b (holding u (with_generics x ∷ k)) t w h = elim w [ ]
 passed_state_shows q s b (holding u []) t w h = elim w [ ]
 passed_state_shows q s b (reading g k) t w h = elim w [ ]

@@ -9,7 +9,7 @@ use Rattle.syn_grammar.specs.Table.{at_semicolon}
 use Rattle.syn_grammar.specs.Take.{lookahead_at, sees}
 use Rattle.syn_grammar.specs.Run.{parse_rule, parse_form}
 use Rattle.syn_grammar.specs.Plan.{Plan, reads, turns, tests, keeps, ends, done, fails, follow, by_test, kept_as, run_plan}
-use Rattle.syn_grammar.specs.ItemPlan.{parts, item_of, hidden, kept_end, function_end, behind_visibility, item_behind, item_plan}
+use Rattle.syn_grammar.specs.ItemPlan.{parts, item_of, hidden, kept_end, function_end, after_visibility, item_after, item_plan}
 use Rattle.syn_grammar.proofs.Takes.{sees_answers}
 use Rattle.syn_grammar.proofs.Known.{excludes, excludes_is, implies, implies_is, not_true}
 use Rattle.syn_grammar.proofs.ItemPlan.{item_plan_is}
@@ -37,17 +37,17 @@ left_over (marked ∷ l) (keeps p) = left_over l p
 left_over (took s r ∷ l) (reads g f) = left_over l (f s)
 left_over _ p = p
 
-abbrev pub behind_all : List Event → Stream → Stream
-behind_all [] m = m
-behind_all (took s r ∷ l) m = behind_all l r
-behind_all (e ∷ l) m = behind_all l m
+abbrev pub after_all : List Event → Stream → Stream
+after_all [] m = m
+after_all (took s r ∷ l) m = after_all l r
+after_all (e ∷ l) m = after_all l m
 
 module _ (k : Rule) (ts : Stream) where
   by_way : (v : Bool) (p q : Plan) (m : Stream) → by_test v (run_plan p k ts m) (run_plan q k ts m) ≡ run_plan (pick v p q) k ts m
   by_way true p q m = refl
   by_way false p q m = refl
 
-  pub happened : (l : List Event) (p : Plan) (m : Stream) → Happens l p m → run_plan p k ts m ≡ run_plan (left_over l p) k ts (behind_all l m)
+  pub happened : (l : List Event) (p : Plan) (m : Stream) → Happens l p m → run_plan p k ts m ≡ run_plan (left_over l p) k ts (after_all l m)
   happened [] p m h = refl
   happened (went v ∷ l) (turns c p q) m h = ap (λ v. by_test v (run_plan p k ts m) (run_plan q k ts m)) h.0 ∙ by_way v p q m ∙ happened l (pick v p q) m h.1
   happened (went v ∷ l) (tests t s p q) m h = ap (λ v. by_test v (run_plan p k ts m) (run_plan q k ts m)) h.0 ∙ by_way v p q m ∙ happened l (pick v p q) m h.1
@@ -106,7 +106,7 @@ module _ (ts m n r z : Stream) (a v s b : Syntax) (outer : parse_rule attributes
       took a m ∷ went true ∷ took v n ∷ went false ∷ went false ∷ went false ∷ went false ∷ went false ∷ went false ∷ went false ∷ went false ∷ went false ∷ went false ∷ went true ∷ took s r ∷ []
 
   up_to_signature : parse_rule item ts ≡ run_plan (function_end a v s) kept_item ts r
-  unfolding item_plan item_behind behind_visibility
+  unfolding item_plan item_after after_visibility
   up_to_signature =
       item_plan_is ts
       ∙ happened kept_item ts so_far item_plan ts

@@ -1,7 +1,7 @@
 -- Parts of a tree that the value doesn't hold aren't printed: the value prints as the whole tree does.
 use Rattle.std.proofs.Common.{◌≡◌, Bool, true, false, refl, sym, ap, ap₂, ◌∙◌}
-use Rattle.syn_grammar.specs.Tokens.{Span, Stream, end, punct, ◌⧺◌, or, and, pick, at_generics, stands}
-use Rattle.syn_grammar.specs.Grammar.{Syntax, Nothing, Both, Left, Right, Node, Vanishing, Group, Case, Such, Unshown, Captured, Last, More, Order, bare, show, spell, behind, sort, renew, print, Shaped, Impl, no_generics, among, led_part, led}
+use Rattle.syn_grammar.specs.Tokens.{Span, Stream, end, punct, ◌⧺◌, or, and, pick, at_generics, present}
+use Rattle.syn_grammar.specs.Grammar.{Syntax, Nothing, Both, Left, Right, Node, Vanishing, Group, Case, Such, Unshown, Captured, Last, More, Order, bare, show, spell, following, sort, renew, print, Shaped, Impl, no_generics, among, led_part, led}
 use Rattle.syn_grammar.specs.SelfTypes.{self_types}
 use Rattle.syn_grammar.specs.Values.{shape}
 use Rattle.syn_grammar.specs.Run.{value_of}
@@ -39,18 +39,18 @@ bare_value (Shaped j s) = ap bare (is_shaped j (value_of s)).2
 bare_value (Order xs l ys) = bare_value l
 bare_value _ = refl
 
-bleach_behind : (s : Syntax) (sp : Span) (t : Syntax) → bleach (behind s sp t) ≡ behind (bleach s) sp (bleach t)
-bleach_behind s sp (Shaped j u) = sym ((shape_apart j (bleach u)).1 (bleach s) sp)
-bleach_behind s sp (More true x q u) = ap (More true (bleach x) q) (bleach_behind s sp u)
-bleach_behind s sp (More false x q u) = refl
-bleach_behind s sp (Last true x) = refl
-bleach_behind s sp (Last false x) = refl
-bleach_behind s sp _ = refl
+bleach_after : (s : Syntax) (sp : Span) (t : Syntax) → bleach (following s sp t) ≡ following (bleach s) sp (bleach t)
+bleach_after s sp (Shaped j u) = sym ((shape_apart j (bleach u)).1 (bleach s) sp)
+bleach_after s sp (More true x q u) = ap (More true (bleach x) q) (bleach_after s sp u)
+bleach_after s sp (More false x q u) = refl
+bleach_after s sp (Last true x) = refl
+bleach_after s sp (Last false x) = refl
+bleach_after s sp _ = refl
 
 bleach_sort : (t : Syntax) → bleach (sort t) ≡ sort (bleach t)
 bleach_sort (Shaped j u) = sym (shape_apart j (bleach u)).0
 bleach_sort (More true s sp t) = ap (More true (bleach s) sp) (bleach_sort t)
-bleach_sort (More false s sp t) = bleach_behind s sp (sort t) ∙ ap (behind (bleach s) sp) (bleach_sort t)
+bleach_sort (More false s sp t) = bleach_after s sp (sort t) ∙ ap (following (bleach s) sp) (bleach_sort t)
 bleach_sort _ = refl
 
 bleach_show : (s : Syntax) → show (bleach s) ≡ show s
@@ -74,13 +74,13 @@ bleach_led_part (Both s t) = ap₂ or (bleach_led_part s) (bleach_led_part t)
 bleach_led_part (Left s) = bleach_led_part s
 bleach_led_part (Right s) = bleach_led_part s
 bleach_led_part (Node s) = bleach_led_part s
-bleach_led_part (Case k s) = ap₂ (λ v z. or (and (among k self_types) (stands at_generics v)) z) (bleach_show s) (bleach_led_part s)
+bleach_led_part (Case k s) = ap₂ (λ v z. or (and (among k self_types) (present at_generics v)) z) (bleach_show s) (bleach_led_part s)
 bleach_led_part (Such s) = bleach_led_part s
 bleach_led_part (Shaped j s) = ap led_part (is_shaped j (bleach s)).2
 bleach_led_part _ = refl
 
 bleach_led : (s : Syntax) → led (bleach s) ≡ led s
-bleach_led s = ap₂ (λ v z. or (stands at_generics v) z) (bleach_show s) (bleach_led_part s)
+bleach_led s = ap₂ (λ v z. or (present at_generics v) z) (bleach_show s) (bleach_led_part s)
 
 bleach_renew : (s : Syntax) → renew (value_of s) ≡ bleach (renew s)
 bleach_renew (Both s t) = ap₂ Both (bleach_renew s) (bleach_renew t)

@@ -1,9 +1,9 @@
 -- Every print is read again, for every table whose summaries hold and whose forms are `fine`.
 use Rattle.std.proofs.Common.{◌≡◌, ℕ, Bool, true, false, List, [], ◌∷◌, ◌++◌, refl, sym, ap, ◌∙◌, ap₂, subst, true≢false, ◌⊎◌, inl, inr}
 use Rattle.syn_grammar.specs.Words.{colon, comma, less, greater, lifetime_mark}
-use Rattle.syn_grammar.specs.Tokens.{Span, Stream, end, leaf, punct, group, ◌⧺◌, or, and, no, pick, Terminal, Ended, Punctuation, Lookahead, lookahead_with, same_terminal, mem, Look, ended, at_mark, ◌or_else◌, answers, starts_mark, is_name, is_ended, asked, leaf_terminal, punctuation_lookahead, lookahead, stands, at_generics, at_parameter, Before_parameter, call_site}
+use Rattle.syn_grammar.specs.Tokens.{Span, Stream, end, leaf, punct, group, ◌⧺◌, or, and, no, pick, Terminal, Ended, Punctuation, Lookahead, lookahead_with, same_terminal, mem, Look, ended, at_mark, ◌or_else◌, answers, starts_mark, is_name, is_ended, asked, leaf_terminal, punctuation_lookahead, lookahead, present, at_generics, at_parameter, Before_parameter, call_site}
 use Rattle.syn_grammar.specs.Rules.{Rule}
-use Rattle.syn_grammar.specs.Grammar.{Syntax, Nothing, Token, Mark, Lifetime, Both, Left, Right, Node, Vanishing, Group, Raw, Rest, Case, Captured, Done, Last, More, Order, Such, chars, spell, Spelled, DerivesPrefix, terminals, suits, Grammar, empty, token, mark, lifetime, ◌&◌, when◌then◌else◌, vanishing, inside, raw, rest_after, either, one_of, rule, such, captured, row, ordered, choose, among, at_row_end, bare, show, behind, sort, print, renew, name, supplied, at_unnamed, underscore, Unshown, Impl, unshown, generics_before, opt_generics, no_generics, Shaped, shaped, led_part, led}
+use Rattle.syn_grammar.specs.Grammar.{Syntax, Nothing, Token, Mark, Lifetime, Both, Left, Right, Node, Vanishing, Group, Raw, Rest, Case, Captured, Done, Last, More, Order, Such, chars, spell, Spelled, DerivesPrefix, terminals, suits, Grammar, empty, token, mark, lifetime, ◌&◌, when◌then◌else◌, vanishing, inside, raw, rest_after, either, one_of, rule, such, captured, row, ordered, choose, among, at_row_end, bare, show, following, sort, print, renew, name, supplied, at_unnamed, underscore, Unshown, Impl, unshown, generics_before, opt_generics, no_generics, Shaped, shaped, led_part, led}
 use Rattle.syn_grammar.proofs.Sets.{or_split, and_left, and_right, no_true, mem_here, mem_left, mem_right, every, every_at, may, must, off_of, or_right, group_terminal}
 use Rattle.syn_grammar.specs.RuleNumbers.{same_rule}
 use Rattle.syn_grammar.proofs.RuleLemmas.{same_rule_eq}
@@ -16,7 +16,7 @@ use Rattle.syn_grammar.proofs.Again.{move, mem2_right, mem2_cross, clear, agree_
 use Rattle.syn_grammar.proofs.Summaries.{Summary, seq_summary, when_summary, empty_summary, vanishing_summary, either_summary, one_summary, seam, kept, filled, HasLookaheads, alike, altered, passed, covers, seq_lookahead, seam_sound, Ready, ready, at_end, ready_left, ready_right, ready_then, ready_else, ready_second, ready_vanishing, cover_lookahead, cover_ready, when_left, when_right, kept_off, when_sure, vanishing_gone, vanishing_stays, either_left, either_right, one_lookahead, one_ready, prints}
 use Rattle.syn_grammar.proofs.Marks.{mark_terminal, mark_lookahead, lookahead_spell, spell_spelled, last_asked, token_summary, token_lookahead, mark_summary, marked, inner_summary, inner_lookahead}
 use Rattle.syn_grammar.proofs.Surely.{surely, surely_sound}
-use Rattle.syn_grammar.proofs.Parts.{group_summary, edges, in_row, ready_at_edge, not_ended, wild_out, wild_lookahead, colon_summary, supplied_colon, supplied_summary, supplied_fine, named_lookahead, mentions, heeds, listens, lead_summary, solid, solid_lookahead, sure_first, printed_behind, inside_summary, inside_lookahead}
+use Rattle.syn_grammar.proofs.Parts.{group_summary, edges, in_row, ready_at_edge, not_ended, wild_out, wild_lookahead, colon_summary, supplied_colon, supplied_summary, supplied_fine, named_lookahead, mentions, heeds, listens, lead_summary, solid, solid_lookahead, sure_first, printed_after, inside_summary, inside_lookahead}
 
 module _ (said : Bool → Rule → Summary) (heard : Rule → Bool) (starts : Rule → Start) (closed : Rule → Bool) where
   abbrev pub summary : Bool → Grammar → Summary
@@ -108,7 +108,7 @@ module _ (said : Bool → Rule → Summary) (heard : Rule → Bool) (starts : Ru
 
     -- one of a row, at any place
     abbrev pub Member : Grammar → Grammar → Bool → Syntax → Type 0
-    Member g h k s = (r' : Stream) → mem (lookahead r').terminal edges ≡ true → DerivesPrefix table (choose k g h) s (show s ⧺ r') r' × (stands at_row_end (show s ⧺ r') ≡ false)
+    Member g h k s = (r' : Stream) → mem (lookahead r').terminal edges ≡ true → DerivesPrefix table (choose k g h) s (show s ⧺ r') r' × (present at_row_end (show s ⧺ r') ≡ false)
 
     abbrev pub Members : Grammar → Grammar → Syntax → Type 0
     Members g h Done = Unit {0}
@@ -116,14 +116,14 @@ module _ (said : Bool → Rule → Summary) (heard : Rule → Bool) (starts : Ru
     Members g h (More k s sp t) = Member g h k s × Members g h t
     Members g h _ = ⊥
 
-    members_behind : (g h : Grammar) (s : Syntax) (sp : Span) (t : Syntax) → Member g h false s → Members g h t → Members g h (behind s sp t)
-    members_behind g h s sp (More true x q u) a b = (b.0, members_behind g h s sp u a b.1)
-    members_behind g h s sp (Last true x) a b = (b, (a, tt))
-    members_behind g h s sp _ a b = (a, b)
+    members_after : (g h : Grammar) (s : Syntax) (sp : Span) (t : Syntax) → Member g h false s → Members g h t → Members g h (following s sp t)
+    members_after g h s sp (More true x q u) a b = (b.0, members_after g h s sp u a b.1)
+    members_after g h s sp (Last true x) a b = (b, (a, tt))
+    members_after g h s sp _ a b = (a, b)
 
     members_sort : (g h : Grammar) (s : Syntax) → Members g h s → Members g h (sort s)
     members_sort g h (More true s sp t) a = (a.0, members_sort g h t a.1)
-    members_sort g h (More false s sp t) a = members_behind g h s sp (sort t) a.0 (members_sort g h t a.1)
+    members_sort g h (More false s sp t) a = members_after g h s sp (sort t) a.0 (members_sort g h t a.1)
     members_sort g h _ a = a
 
     row_again : (g h : Grammar) (s : Syntax) (r' : Stream) → Members g h s → (lookahead r').terminal ≡ Punctuation greater → DerivesPrefix table (row g h) s (show s ⧺ r') r'
@@ -138,7 +138,7 @@ module _ (said : Bool → Rule → Summary) (heard : Rule → Bool) (starts : Ru
 
     -- PRINTED PARAMETERS: each begins one, so generics are read where the printed list is
     abbrev Sure : Syntax → Type 0
-    Sure s = (r' : Stream) → mem (lookahead r').terminal edges ≡ true → stands at_parameter (show s ⧺ r') ≡ true
+    Sure s = (r' : Stream) → mem (lookahead r').terminal edges ≡ true → present at_parameter (show s ⧺ r') ≡ true
 
     abbrev Sures : Syntax → Type 0
     Sures Done = Unit {0}
@@ -146,36 +146,36 @@ module _ (said : Bool → Rule → Summary) (heard : Rule → Bool) (starts : Ru
     Sures (More k s sp t) = Sure s × Sures t
     Sures _ = ⊥
 
-    sures_behind : (s : Syntax) (sp : Span) (t : Syntax) → Sure s → Sures t → Sures (behind s sp t)
-    sures_behind s sp (More true x q u) a b = (b.0, sures_behind s sp u a b.1)
-    sures_behind s sp (Last true x) a b = (b, (a, tt))
-    sures_behind s sp _ a b = (a, b)
+    sures_after : (s : Syntax) (sp : Span) (t : Syntax) → Sure s → Sures t → Sures (following s sp t)
+    sures_after s sp (More true x q u) a b = (b.0, sures_after s sp u a b.1)
+    sures_after s sp (Last true x) a b = (b, (a, tt))
+    sures_after s sp _ a b = (a, b)
 
     sures_sort : (s : Syntax) → Sures s → Sures (sort s)
     sures_sort (More true s sp t) a = (a.0, sures_sort t a.1)
-    sures_sort (More false s sp t) a = sures_behind s sp (sort t) a.0 (sures_sort t a.1)
+    sures_sort (More false s sp t) a = sures_after s sp (sort t) a.0 (sures_sort t a.1)
     sures_sort _ a = a
 
     abbrev at_list : Look
     at_list = at_mark greater or_else at_parameter
 
-    sures_lookahead : (l : Syntax) (v : Stream) → Sures l → (lookahead v).terminal ≡ Punctuation greater → stands at_list (show l ⧺ v) ≡ true
-    sures_lookahead Done v w e = ap (λ f. or (starts_mark greater f) (stands at_parameter v)) e
-    sures_lookahead (Last k s) v w e = or_right (stands (at_mark greater) (show s ⧺ v)) _ (w v (ap (λ z. mem z edges) e))
+    sures_lookahead : (l : Syntax) (v : Stream) → Sures l → (lookahead v).terminal ≡ Punctuation greater → present at_list (show l ⧺ v) ≡ true
+    sures_lookahead Done v w e = ap (λ f. or (starts_mark greater f) (present at_parameter v)) e
+    sures_lookahead (Last k s) v w e = or_right (present (at_mark greater) (show s ⧺ v)) _ (w v (ap (λ z. mem z edges) e))
     sures_lookahead (More k s sp t) v w e =
-        ap (stands at_list) (append_append (show s) (punct 44 false sp (show t)) v)
-        ∙ or_right (stands (at_mark greater) (show s ⧺ punct 44 false sp (show t ⧺ v))) _ (w.0 (punct 44 false sp (show t ⧺ v)) refl)
+        ap (present at_list) (append_append (show s) (punct 44 false sp (show t)) v)
+        ∙ or_right (present (at_mark greater) (show s ⧺ punct 44 false sp (show t ⧺ v))) _ (w.0 (punct 44 false sp (show t ⧺ v)) refl)
     sures_lookahead _ v w e = elim w [ ]
 
     led_lookahead : (g h : Grammar) (xs : List (ℕ × Span)) (l : Syntax) (ys : List (ℕ × Span)) (u : Stream) → Sures l →
-        DerivesPrefix table (ordered g h) (Order xs l ys) (show (Order xs l ys) ⧺ u) u → (stands at_generics (show (Order xs l ys) ⧺ u) ≡ true) × ((lookahead (show (Order xs l ys) ⧺ u)).terminal ≡ Punctuation less)
+        DerivesPrefix table (ordered g h) (Order xs l ys) (show (Order xs l ys) ⧺ u) u → (present at_generics (show (Order xs l ys) ⧺ u) ≡ true) × ((lookahead (show (Order xs l ys) ⧺ u)).terminal ≡ Punctuation less)
     led_lookahead g h [] l ys u w (z, e, d, i, a, e', d') = elim d [ ]
     led_lookahead g h (p ∷ p' ∷ xs) l ys u w (z, e, d, i, a, e', d') = cc (e)
     led_lookahead g h (p ∷ []) l ys u w (z, e, d, i, a, e', d') =
         let c : p.0 ≡ 60 = cc (e) in
         let last : lookahead (spell ys u) ≡ mark_lookahead greater (lookahead u) = lookahead_spell ys u ∙ ap (λ z. mark_lookahead z (lookahead u)) e' in
-        let behind_less : (show l ⧺ spell ys end) ⧺ u ≡ show l ⧺ spell ys u = append_append (show l) (spell ys end) u ∙ ap (λ z. show l ⧺ z) (append_spell ys end u) in
-        let t : stands at_list ((show l ⧺ spell ys end) ⧺ u) ≡ true = ap (stands at_list) behind_less ∙ sures_lookahead l (spell ys u) w (ap (λ z. z.terminal) last) in
+        let after_less : (show l ⧺ spell ys end) ⧺ u ≡ show l ⧺ spell ys u = append_append (show l) (spell ys end) u ∙ ap (λ z. show l ⧺ z) (append_spell ys end u) in
+        let t : present at_list ((show l ⧺ spell ys end) ⧺ u) ≡ true = ap (present at_list) after_less ∙ sures_lookahead l (spell ys u) w (ap (λ z. z.terminal) last) in
         (ap (λ k. answers at_generics (punctuation_lookahead k false (lookahead ((show l ⧺ spell ys end) ⧺ u)))) c ∙ ap (λ v. answers at_generics (lookahead_with (Punctuation less) (pick v (Before_parameter ∷ []) []))) t, ap (λ k. Punctuation (k ∷ [])) c)
 
     -- the lookahead of such a list
@@ -186,15 +186,15 @@ module _ (said : Bool → Rule → Summary) (heard : Rule → Bool) (starts : Ru
     led_exactly g h (p ∷ []) l ys u w (z, e, d, i, a, e', d') =
         let c : p.0 ≡ 60 = cc (e) in
         let last : lookahead (spell ys u) ≡ mark_lookahead greater (lookahead u) = lookahead_spell ys u ∙ ap (λ z. mark_lookahead z (lookahead u)) e' in
-        let behind_less : (show l ⧺ spell ys end) ⧺ u ≡ show l ⧺ spell ys u = append_append (show l) (spell ys end) u ∙ ap (λ z. show l ⧺ z) (append_spell ys end u) in
-        let t : stands at_list ((show l ⧺ spell ys end) ⧺ u) ≡ true = ap (stands at_list) behind_less ∙ sures_lookahead l (spell ys u) w (ap (λ z. z.terminal) last) in
+        let after_less : (show l ⧺ spell ys end) ⧺ u ≡ show l ⧺ spell ys u = append_append (show l) (spell ys end) u ∙ ap (λ z. show l ⧺ z) (append_spell ys end u) in
+        let t : present at_list ((show l ⧺ spell ys end) ⧺ u) ≡ true = ap (present at_list) after_less ∙ sures_lookahead l (spell ys u) w (ap (λ z. z.terminal) last) in
         ap (λ k. punctuation_lookahead k false (lookahead ((show l ⧺ spell ys end) ⧺ u))) c ∙ ap (λ v. lookahead_with (Punctuation less) (pick v (Before_parameter ∷ []) [])) t
 
     sure_choice : (k : Bool) (g h : Grammar) → and (sure false at_parameter edges g) (sure false at_parameter edges h) ≡ true → sure false at_parameter edges (choose k g h) ≡ true
     sure_choice true g h w = and_left (sure false at_parameter edges g) _ w
     sure_choice false g h w = and_right (sure false at_parameter edges g) _ w
 
-    token_printed : (c : Look) (A : List Terminal) (g : Grammar) (s : Syntax) (ts m z : Stream) → token_sure c A g ≡ true → DerivesPrefix table g s ts m → mem (lookahead z).terminal A ≡ true → stands c (print s ⧺ z) ≡ true
+    token_printed : (c : Look) (A : List Terminal) (g : Grammar) (s : Syntax) (ts m z : Stream) → token_sure c A g ≡ true → DerivesPrefix table g s ts m → mem (lookahead z).terminal A ≡ true → present c (print s ⧺ z) ≡ true
     token_printed c A (token k x) (Token y sp) ts m z w a e =
         surely_sound true (asked (leaf_terminal y)) A c (leaf_terminal y) (lookahead z) e (every_at (λ f. surely true (asked f) A c f) (leaf_terminal y) (terminals x) w (and_right (suits x y) _ a.0))
     token_printed c A (token k x) _ ts m z w a e = elim a [ ]
@@ -208,7 +208,7 @@ module _ (said : Bool → Rule → Summary) (heard : Rule → Bool) (starts : Ru
     led_empty : (x y h : Grammar) (l : List Terminal) (s : Syntax) (u r' : Stream) → DerivesPrefix table h s u r' → lookahead u ≡ lookahead (show s) → mem (lookahead u).terminal l ≡ true → (v : Bool) → led s ≡ v →
         DerivesPrefix table (generics_before x y h) (Impl (pick v no_generics (Right Nothing)) s) (show (pick v no_generics (Right Nothing)) ⧺ u) r' × (mem (lookahead (show (pick v no_generics (Right Nothing)) ⧺ u)).terminal (Punctuation less ∷ l) ≡ true)
     led_empty x y h l s u r' a e f true q = ((u, (refl, (punct 62 false call_site u, refl, (false, refl), punct 62 false call_site u, (refl, refl), refl, (false, refl))), a), mem_here (Punctuation less) l)
-    led_empty x y h l s u r' a e f false q = ((u, (ap (answers at_generics) e ∙ or_off_left (stands at_generics (show s)) (led_part s) q, refl), a), or_right (same_terminal (lookahead u).terminal (Punctuation less)) _ f)
+    led_empty x y h l s u r' a e f false q = ((u, (ap (answers at_generics) e ∙ or_off_left (present at_generics (show s)) (led_part s) q, refl), a), or_right (same_terminal (lookahead u).terminal (Punctuation less)) _ f)
 
     -- the print before r' is read as the tree without what vanished, and its lookahead is as said
     abbrev pub Again : Bool → Grammar → Syntax → Stream → Stream → Stream → Type 0
@@ -304,7 +304,7 @@ module _ (said : Bool → Rule → Summary) (heard : Rule → Bool) (starts : Ru
           go (sure_list c g) refl (and_right (fine u h) _ (and_right (fine u g) _ w)) x (λ v. list_sure c g s ts r r' u v (and_left (fine u g) _ w) a x.0)
         where
           go : (v : Bool) → sure_list c g ≡ v → kept c (pick (sure_list c g) empty_summary (summary (or j (mentions c)) g)) (summary (or j (mentions c)) h) ≡ true → Again (or j (mentions c)) g s ts r r' →
-              (sure_list c g ≡ true → (stands c (print s ⧺ r') ≡ true) × (no (filled (summary (or j (mentions c)) g).gone) ≡ true)) →
+              (sure_list c g ≡ true → (present c (print s ⧺ r') ≡ true) × (no (filled (summary (or j (mentions c)) g).gone) ≡ true)) →
               DerivesPrefix table (when c then g else h) (Left (renew s)) (print s ⧺ r') r' × HasLookaheads (summary j (when c then g else h)) (lookahead ts) (lookahead (print s ⧺ r')) (lookahead r) (lookahead r')
           go false i w x f =
               let p = summary (or j (mentions c)) g in
@@ -440,7 +440,7 @@ module _ (said : Bool → Rule → Summary) (heard : Rule → Bool) (starts : Ru
       again j _ _ ts r r' w h R = elim h [ ]
 
       list_sure : (c : Look) (g : Grammar) (s : Syntax) (ts r r' : Stream) (j : Bool) → sure_list c g ≡ true → fine j g ≡ true → DerivesPrefix table g s ts r → DerivesPrefix table g (renew s) (print s ⧺ r') r' →
-          (stands c (print s ⧺ r') ≡ true) × (no (filled (summary j g).gone) ≡ true)
+          (present c (print s ⧺ r') ≡ true) × (no (filled (summary j g).gone) ≡ true)
       list_sure c (ordered x y) (Order xs l ys) ts r r' j v w (m, e, d, m', a, e', d') b =
           let q = and (sure false at_parameter edges x) (sure false at_parameter edges y) in
           let there = mem_right (lookahead m').terminal (mark_first_set comma) (mark_first_set greater) (ap (λ z. mem (lookahead m').terminal (mark_first_set z)) (sym e') ∙ mark_head ys m' r d') in
@@ -450,7 +450,7 @@ module _ (said : Bool → Rule → Summary) (heard : Rule → Bool) (starts : Ru
       list_sure c _ s ts r r' j v w a b = absurd (true≢false (sym v))
 
       printed_sure : (j : Bool) (c : Look) (A : List Terminal) (g : Grammar) (s : Syntax) (ts r r' : Stream) → fine j g ≡ true → sure j c A g ≡ true → DerivesPrefix table g s ts r → Ready (summary j g) (lookahead r) (lookahead r') →
-          mem (lookahead r').terminal A ≡ true → stands c (print s ⧺ r') ≡ true
+          mem (lookahead r').terminal A ≡ true → present c (print s ⧺ r') ≡ true
       printed_sure j c A (g & h) (Both s t) ts r r' w v (m, a, b) R e =
           let u = heeds j (summary j g) in
           let p = summary j g in
@@ -460,21 +460,21 @@ module _ (said : Bool → Rule → Summary) (heard : Rule → Bool) (starts : Ru
           let y = again u h t m r r' fh b Rh in
           let k = seam_sound (never_follow starts [] g) (never_follow starts [] h) p q (lookahead m) (lookahead (print t ⧺ r')) (lookahead r) (lookahead r') (and_right (fine u h) _ (and_right (fine j g) _ w)) (ended_off starts table never_follow_hold [] g s ts m tt a) (ended_off starts table never_follow_hold [] h t m r tt b) y.1 R in
           let x = again j g s ts m (print t ⧺ r') (and_left (fine j g) _ w) a k in
-          let there = printed_behind q A (lookahead m) (lookahead (print t ⧺ r')) (lookahead r) (lookahead r') e y.1 in
-          ap (stands c) (append_append (print s) (print t) r') ∙ go (or_split (token_sure c (prints q ++ A) g) _ v) there x.1 (λ v'. printed_sure u c A h t m r r' fh v' b Rh e)
+          let there = printed_after q A (lookahead m) (lookahead (print t ⧺ r')) (lookahead r) (lookahead r') e y.1 in
+          ap (present c) (append_append (print s) (print t) r') ∙ go (or_split (token_sure c (prints q ++ A) g) _ v) there x.1 (λ v'. printed_sure u c A h t m r r' fh v' b Rh e)
         where
           rest_sure : (solid (summary j g) ≡ true) ⊎ (sure (heeds j (summary j g)) c A h ≡ true) → solid (summary j g) ≡ false → sure (heeds j (summary j g)) c A h ≡ true
           rest_sure (inl q) f = absurd (true≢false (sym q ∙ f))
           rest_sure (inr q) f = q
 
           first_sure : or (solid (summary j g)) (sure (heeds j (summary j g)) c A h) ≡ true → (answers c (lookahead (print s ⧺ (print t ⧺ r'))) ≡ true) ⊎ ((solid (summary j g) ≡ false) × (lookahead (print s ⧺ (print t ⧺ r')) ≡ lookahead (print t ⧺ r'))) →
-              (sure (heeds j (summary j g)) c A h ≡ true → stands c (print t ⧺ r') ≡ true) → stands c (print s ⧺ (print t ⧺ r')) ≡ true
+              (sure (heeds j (summary j g)) c A h ≡ true → present c (print t ⧺ r') ≡ true) → present c (print s ⧺ (print t ⧺ r')) ≡ true
           first_sure v' (inl q) ih = q
           first_sure v' (inr q) ih = ap (answers c) q.1 ∙ ih (rest_sure (or_split (solid (summary j g)) _ v') q.0)
 
           go : (token_sure c (prints (summary (heeds j (summary j g)) h) ++ A) g ≡ true) ⊎ (and (every (must c) (prints (summary j g))) (or (solid (summary j g)) (sure (heeds j (summary j g)) c A h)) ≡ true) →
               mem (lookahead (print t ⧺ r')).terminal (prints (summary (heeds j (summary j g)) h) ++ A) ≡ true → HasLookaheads (summary j g) (lookahead ts) (lookahead (print s ⧺ (print t ⧺ r'))) (lookahead m) (lookahead (print t ⧺ r')) →
-              (sure (heeds j (summary j g)) c A h ≡ true → stands c (print t ⧺ r') ≡ true) → stands c (print s ⧺ (print t ⧺ r')) ≡ true
+              (sure (heeds j (summary j g)) c A h ≡ true → present c (print t ⧺ r') ≡ true) → present c (print s ⧺ (print t ⧺ r')) ≡ true
           go (inl q) there f ih = token_printed c (prints (summary (heeds j (summary j g)) h) ++ A) g s ts m (print t ⧺ r') q a there
           go (inr q) there f ih =
               first_sure (and_right (every (must c) (prints (summary j g))) _ q) (sure_first c (summary j g) (lookahead ts) (lookahead (print s ⧺ (print t ⧺ r'))) (lookahead m) (lookahead (print t ⧺ r')) (and_left (every (must c) (prints (summary j g))) _ q) f) ih
@@ -491,7 +491,7 @@ module _ (said : Bool → Rule → Summary) (heard : Rule → Bool) (starts : Ru
           let x = again j (table k) s ts r r' l.1 a (cover_ready (said j k) (summary j (table k)) l.0 (lookahead r) (lookahead r') R) in
           go (sure_first c (said j k) (lookahead ts) (lookahead (print s ⧺ r')) (lookahead r) (lookahead r') (and_left (every (must c) (prints (said j k))) _ v) (cover_lookahead (said j k) (summary j (table k)) l.0 (lookahead ts) (lookahead (print s ⧺ r')) (lookahead r) (lookahead r') x.1))
         where
-          go : (stands c (print s ⧺ r') ≡ true) ⊎ ((solid (said j k) ≡ false) × (lookahead (print s ⧺ r') ≡ lookahead r')) → stands c (print s ⧺ r') ≡ true
+          go : (present c (print s ⧺ r') ≡ true) ⊎ ((solid (said j k) ≡ false) × (lookahead (print s ⧺ r') ≡ lookahead r')) → present c (print s ⧺ r') ≡ true
           go (inl q) = q
           go (inr q) = absurd (true≢false (sym (and_right (every (must c) (prints (said j k))) _ v) ∙ q.0))
       printed_sure j c A (g & h) _ ts r r' w v a R e = elim a [ ]

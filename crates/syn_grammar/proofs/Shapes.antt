@@ -2,9 +2,9 @@
 use Rattle.std.proofs.Common.{◌≡◌, ℕ, Bool, true, false, List, refl, sym, ap, ap₂, ◌∙◌}
 use Rattle.syn_grammar.specs.Tokens.{Span, Stream, end, ◌⧺◌, and, pick, Paren, Bracket}
 use Rattle.syn_grammar.specs.Rules.{Rule, kept_item}
-use Rattle.syn_grammar.specs.Shape.{Variant, Path, Struct, Binary, Assign, Cast, Verbatim, Macro, Shape, expr, operand, bracketed, behind_it, operator, dotted, fields, choice, chain, leading, labelled, attributed, listed, lone, said, said_macro, a_local, an_item, untagged, parameters, based, single}
-use Rattle.syn_grammar.specs.Grammar.{Syntax, Nothing, Mark, Both, Left, Right, Node, Case, Such, Group, Raw, Captured, Shaped, Unshown, More, vacant, ends_brace, show, sort, behind, renew}
-use Rattle.syn_grammar.specs.Values.{no_attributes, new, core, variant_of, member_variant, literal_of, onto, chained, attributes_before, with_attributes, led, with_label, label, moved, with_outer, kept_whole, whole_item, sentence, alone, state, stated, no_statements, listing, going_on, go_on, in_list, separated, untag, no_members, one_member, more_members, member, ellipsis_of, behind_colon, typed, parameter_of, parameters_of, no_base, literal_fields_of, shape}
+use Rattle.syn_grammar.specs.Shape.{Variant, Path, Struct, Binary, Assign, Cast, Verbatim, Macro, Shape, expr, operand, bracketed, after_it, operator, dotted, fields, choice, chain, leading, labelled, attributed, listed, lone, said, said_macro, a_local, an_item, untagged, parameters, based, single}
+use Rattle.syn_grammar.specs.Grammar.{Syntax, Nothing, Mark, Both, Left, Right, Node, Case, Such, Group, Raw, Captured, Shaped, Unshown, More, vacant, ends_brace, show, sort, following, renew}
+use Rattle.syn_grammar.specs.Values.{no_attributes, new, core, variant_of, member_variant, literal_of, onto, chained, attributes_before, with_attributes, led, with_label, label, moved, with_outer, kept_whole, whole_item, sentence, alone, state, stated, no_statements, listing, going_on, go_on, in_list, separated, untag, no_members, one_member, more_members, member, ellipsis_of, after_colon, typed, parameter_of, parameters_of, no_base, literal_fields_of, shape}
 use Rattle.syn_grammar.proofs.Streams.{append_end, append_append}
 
 pub record IsSum (M : Type 0) (op : M → M → M) (m : Syntax → M) : Type 0 where
@@ -58,7 +58,7 @@ module _ {M : Type 0} {op : M → M → M} {m : Syntax → M} (law : IsSum M op 
   onto_sum a (Left l) = onto_sum a l ∙ pair a a l (Left l) refl (sym (law.left l))
   onto_sum a (Right l) = onto_sum a l ∙ pair a a l (Right l) refl (sym (law.right l))
   onto_sum a (Both l k) = onto_sum (onto a l) k ∙ pair (onto a l) (Both a l) k k (onto_sum a l) refl ∙ regroup a l k
-  onto_sum a (Shaped (behind_it v) p) = new_sum v (Both a p) ∙ pair a a p (Shaped (behind_it v) p) refl (sym (law.shaped (behind_it v) p))
+  onto_sum a (Shaped (after_it v) p) = new_sum v (Both a p) ∙ pair a a p (Shaped (after_it v) p) refl (sym (law.shaped (after_it v) p))
   onto_sum a (Shaped (operator v) p) = new_sum v (Both a p) ∙ pair a a p (Shaped (operator v) p) refl (sym (law.shaped (operator v) p))
   onto_sum a (Shaped dotted p) = new_sum (member_variant p) (Both a p) ∙ pair a a p (Shaped dotted p) refl (sym (law.shaped dotted p))
   onto_sum a (Shaped fields p) = literal_sum a p ∙ pair a a p (Shaped fields p) refl (sym (law.shaped fields p))
@@ -242,23 +242,23 @@ module _ {M : Type 0} {op : M → M → M} {m : Syntax → M} (law : IsSum M op 
   ellipsis_sum a p v =
       law.shaped parameters (Both no_members (Left (Both a (Both p v)))) ∙ none_before no_members (Left (Both a (Both p v))) no_members_sum ∙ law.left (Both a (Both p v))
 
-  behind_colon_sum : (a p c s : Syntax) → m (behind_colon a p c s) ≡ m (Both a (Both p (Both c s)))
-  behind_colon_sum a p c (Left v) =
+  after_colon_sum : (a p c s : Syntax) → m (after_colon a p c s) ≡ m (Both a (Both p (Both c s)))
+  after_colon_sum a p c (Left v) =
       ellipsis_sum a (Left (Both p c)) v
       ∙ pair a a (Both (Left (Both p c)) v) (Both p (Both c (Left v))) refl
       (pair (Left (Both p c)) (Both p c) v v (law.left (Both p c)) refl ∙ regroup p c v ∙ pair p p (Both c v) (Both c (Left v)) refl (pair c c v (Left v) refl (sym (law.left v))))
-  behind_colon_sum a p c (Right (Both t e)) =
+  after_colon_sum a p c (Right (Both t e)) =
       let x = Node (Both a (Right (Both p (Both c t)))) in
       member_sum parameters (Right Nothing) x e (law.right Nothing)
       ∙ pair x (Both a (Both p (Both c t))) e e (law.node (Both a (Right (Both p (Both c t)))) ∙ pair a a (Right (Both p (Both c t))) (Both p (Both c t)) refl (law.right (Both p (Both c t)))) refl
       ∙ regroup a (Both p (Both c t)) e
       ∙ pair a a (Both (Both p (Both c t)) e) (Both p (Both c (Right (Both t e)))) refl
       (regroup p (Both c t) e ∙ pair p p (Both (Both c t) e) (Both c (Right (Both t e))) refl (regroup c t e ∙ pair c c (Both t e) (Right (Both t e)) refl (sym (law.right (Both t e)))))
-  behind_colon_sum a p c s = law.shaped parameters (Both a (Both p (Both c s)))
+  after_colon_sum a p c s = law.shaped parameters (Both a (Both p (Both c s)))
 
   typed_sum : (a s : Syntax) → m (typed a s) ≡ m (Both a s)
   typed_sum a (Left v) = ellipsis_sum a (Right Nothing) v ∙ pair a a (Both (Right Nothing) v) (Left v) refl (none_before (Right Nothing) v (law.right Nothing) ∙ sym (law.left v))
-  typed_sum a (Right (Both p (Both c s))) = behind_colon_sum a p c s ∙ pair a a (Both p (Both c s)) (Right (Both p (Both c s))) refl (sym (law.right (Both p (Both c s))))
+  typed_sum a (Right (Both p (Both c s))) = after_colon_sum a p c s ∙ pair a a (Both p (Both c s)) (Right (Both p (Both c s))) refl (sym (law.right (Both p (Both c s))))
   typed_sum a s = law.shaped parameters (Both a s)
 
   parameter_sum : (a s : Syntax) → m (parameter_of a s) ≡ m (Both a s)
@@ -496,14 +496,14 @@ members_renew j b x (Left (Both comma l)) = more_members_renew j x comma l
 members_renew j b x (Right n) = refl
 members_renew j b x _ = refl
 
-behind_colon_renew : (a p c s : Syntax) → renew (behind_colon a p c s) ≡ behind_colon (renew a) (renew p) (renew c) (renew s)
-behind_colon_renew a p c (Left v) = refl
-behind_colon_renew a p c (Right (Both t e)) = members_renew parameters (Right Nothing) (Node (Both a (Right (Both p (Both c t))))) e
-behind_colon_renew a p c _ = refl
+after_colon_renew : (a p c s : Syntax) → renew (after_colon a p c s) ≡ after_colon (renew a) (renew p) (renew c) (renew s)
+after_colon_renew a p c (Left v) = refl
+after_colon_renew a p c (Right (Both t e)) = members_renew parameters (Right Nothing) (Node (Both a (Right (Both p (Both c t))))) e
+after_colon_renew a p c _ = refl
 
 typed_renew : (a s : Syntax) → renew (typed a s) ≡ typed (renew a) (renew s)
 typed_renew a (Left v) = refl
-typed_renew a (Right (Both p (Both c s))) = behind_colon_renew a p c s
+typed_renew a (Right (Both p (Both c s))) = after_colon_renew a p c s
 typed_renew a _ = refl
 
 parameter_renew : (a s : Syntax) → renew (parameter_of a s) ≡ parameter_of (renew a) (renew s)
@@ -561,7 +561,7 @@ onto_shaped a (Node l) h = onto_shaped a l h
 onto_shaped a (Left l) h = onto_shaped a l h
 onto_shaped a (Right l) h = onto_shaped a l h
 onto_shaped a (Both l k) h = onto_shaped (onto a l) k (onto_shaped a l h)
-onto_shaped a (Shaped (behind_it v) p) h = (_, _, refl)
+onto_shaped a (Shaped (after_it v) p) h = (_, _, refl)
 onto_shaped a (Shaped (operator v) p) h = (_, _, refl)
 onto_shaped a (Shaped dotted p) h = (_, _, refl)
 onto_shaped a (Shaped fields p) h = literal_shaped a p
@@ -629,14 +629,14 @@ member_shaped j b x (Left (Both comma l)) = more_members_shaped j x comma l
 member_shaped j b x (Right n) = (_, _, refl)
 member_shaped j b x s = (j, Both x s, refl)
 
-behind_colon_shaped : (a p c s : Syntax) → IsShaped (behind_colon a p c s)
-behind_colon_shaped a p c (Left v) = (_, _, refl)
-behind_colon_shaped a p c (Right (Both t e)) = member_shaped parameters (Right Nothing) (Node (Both a (Right (Both p (Both c t))))) e
-behind_colon_shaped a p c s = (parameters, Both a (Both p (Both c s)), refl)
+after_colon_shaped : (a p c s : Syntax) → IsShaped (after_colon a p c s)
+after_colon_shaped a p c (Left v) = (_, _, refl)
+after_colon_shaped a p c (Right (Both t e)) = member_shaped parameters (Right Nothing) (Node (Both a (Right (Both p (Both c t))))) e
+after_colon_shaped a p c s = (parameters, Both a (Both p (Both c s)), refl)
 
 typed_shaped : (a s : Syntax) → IsShaped (typed a s)
 typed_shaped a (Left v) = (_, _, refl)
-typed_shaped a (Right (Both p (Both c s))) = behind_colon_shaped a p c s
+typed_shaped a (Right (Both p (Both c s))) = after_colon_shaped a p c s
 typed_shaped a s = (parameters, Both a s, refl)
 
 parameter_shaped : (a s : Syntax) → IsShaped (parameter_of a s)
@@ -680,8 +680,8 @@ is_shaped single s = core_shaped s
 is_shaped j s = (j, s, refl)
 
 -- no row's sorting looks into it
-pub shape_apart : (j : Shape) (s : Syntax) → (sort (shape j s) ≡ shape j s) × ((t : Syntax) (sp : Span) → behind t sp (shape j s) ≡ More false t sp (shape j s))
-shape_apart j s = let (i, u, e) = is_shaped j s in (ap sort e ∙ sym e, λ t sp. ap (behind t sp) e ∙ ap (More false t sp) (sym e))
+pub shape_apart : (j : Shape) (s : Syntax) → (sort (shape j s) ≡ shape j s) × ((t : Syntax) (sp : Span) → following t sp (shape j s) ≡ More false t sp (shape j s))
+shape_apart j s = let (i, u, e) = is_shaped j s in (ap sort e ∙ sym e, λ t sp. ap (following t sp) e ∙ ap (More false t sp) (sym e))
 
 -- one of two is shown and printed as it is, without saying which
 pub untag_shown : (s : Syntax) → show (untag s) ≡ show s

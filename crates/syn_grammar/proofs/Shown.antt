@@ -7,7 +7,7 @@ use Rattle.syn_grammar.specs.Table.{table}
 use Rattle.syn_grammar.specs.Take.{Out}
 use Rattle.syn_grammar.specs.Run.{parse_rule}
 use Rattle.syn_grammar.specs.Promises.{NotDerived}
-use Rattle.syn_grammar.proofs.Means.{parse_rule_told, refused}
+use Rattle.syn_grammar.proofs.Means.{parse_rule_known, refused}
 use Rattle.syn_grammar.proofs.PrintedValues.{print_value}
 
 -- from this byte to that
@@ -34,7 +34,7 @@ computed k ts printed rest h = subst (Said k ts) h (go (parse_rule k ts) refl)
     go : (o : Out) → parse_rule k ts ≡ o → Said k ts (printed_of o)
     go None e = tt
     go (Some p) e =
-        let t = parse_rule_told k ts p e in
+        let t = parse_rule_known k ts p e in
         (t.0, t.1, ap plain (sym (print_value t.0) ∙ ap print t.2))
 
 -- nothing is read where nothing is computed

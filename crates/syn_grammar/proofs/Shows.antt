@@ -7,8 +7,8 @@ use Rattle.syn_grammar.specs.Grammar.{Syntax, DerivesPrefix, rule, show, renew}
 use Rattle.syn_grammar.specs.Table.{table}
 use Rattle.syn_grammar.specs.Take.{Out, sees, take_mark, taken}
 use Rattle.syn_grammar.specs.Run.{parse_rule, value_of}
-use Rattle.syn_grammar.specs.StandsAlone.{reads_shown, stands_alone, stands_before}
-use Rattle.syn_grammar.specs.Alone.{ShowIsRead, ShowStandsAlone, ShowStandsBefore, SameShow}
+use Rattle.syn_grammar.specs.IsAlone.{reads_shown, is_alone, is_before}
+use Rattle.syn_grammar.specs.Alone.{ShowIsRead, ShowIsAlone, ShowIsBefore, SameShow}
 use Rattle.syn_grammar.proofs.Sets.{or_split, or_right, and_left, and_right, every, every_at, subset, same_text_eq}
 use Rattle.syn_grammar.proofs.Plain.{show_plain}
 use Rattle.syn_grammar.proofs.Streams.{append_end}
@@ -19,9 +19,9 @@ use Rattle.syn_grammar.proofs.Summaries.{Summary, keeps, covers, Ready, ready, a
 use Rattle.syn_grammar.proofs.Extend.{closes}
 use Rattle.syn_grammar.proofs.Reprint.{summary, fine, IsSummary, again}
 use Rattle.syn_grammar.proofs.Said.{start_of, shown_summary_of, shown_heard_of, closed_of, cut_of, spaced_of}
-use Rattle.syn_grammar.proofs.Takes.{mark_told}
+use Rattle.syn_grammar.proofs.Takes.{mark_known}
 use Rattle.syn_grammar.proofs.Looks.{known_mark, sees_mark}
-use Rattle.syn_grammar.proofs.Means.{parse_rule_told, parse_rule_found}
+use Rattle.syn_grammar.proofs.Means.{parse_rule_known, parse_rule_found}
 use Rattle.syn_grammar.proofs.Alone.{of_every_rule, implies, by_implied, like_values}
 use Rattle.syn_grammar.proofs.Full.{full_table, full_tree, full_read, full_back, show_full, shown_well}
 use Rattle.syn_grammar.proofs.Cut.{cut, shown_unjoined}
@@ -68,7 +68,7 @@ shown_again k s ts r r' w d R =
 -- so it is computed at the end, where that changes nothing
 shown_alone : (k : Rule) (ts : Stream) (s : Syntax) (r : Stream) → reads_shown k ≡ true → parse_rule k ts ≡ Some (s, r) → Ready (shown_summary_of false k) (lookahead r) (lookahead end) → parse_rule k (show s) ≡ Some (s, end)
 shown_alone k ts s r w e R =
-    let (t, a, h) = parse_rule_told k ts (s, r) e in
+    let (t, a, h) = parse_rule_known k ts (s, r) e in
     let (u, d, i) = shown_again k t ts r end w a R in
     let b : DerivesPrefix table (rule k) u (show s) end = subst (λ z. DerivesPrefix table (rule k) u z end) (append_end (show (value_of t)) ∙ ap show h) d in
     parse_rule_found k (show s) u end b ∙ ap (λ z. Some (z, end)) (i ∙ h)
@@ -109,21 +109,21 @@ ready_there p a w = ready p a a (agree_same p.ends a a refl) (stay_off_same p.ha
 
 shown_cut : (k : Rule) (ts : Stream) (s : Syntax) (r : Stream) → reads_shown k ≡ true → cut_off k ≡ true → parse_rule k ts ≡ Some (s, r) → parse_rule k (show s) ≡ Some (s, end)
 shown_cut k ts s r w v e =
-    let (t, a, h) = parse_rule_told k ts (s, r) e in
+    let (t, a, h) = parse_rule_known k ts (s, r) e in
     let v' = and_right (no_looks (shown_summary_of false k).shuns) _ v in
     let (u, d, i) = shown_again k t ts r r w a (ready_there (shown_summary_of false k) (lookahead r) (and_left (no_looks (shown_summary_of false k).shuns) _ v)) in
     let c = cut (rule k) u (show (value_of t)) end r (or_right (closed_of k) (cut_of k) (and_left (cut_of k) _ v')) (shown_unjoined (rule k) t ts r (and_right (cut_of k) _ v') a) d in
     let b : DerivesPrefix table (rule k) u (show s) end = subst (λ z. DerivesPrefix table (rule k) u z end) (ap show h) c in
     parse_rule_found k (show s) u end b ∙ ap (λ z. Some (z, end)) (i ∙ h)
 
-abbrev stands_well : Rule → Bool
-stands_well k = and (reads_shown k) (or (cut_well (shown_summary_of false k)) (cut_off k))
+abbrev well_placed : Rule → Bool
+well_placed k = and (reads_shown k) (or (cut_well (shown_summary_of false k)) (cut_off k))
 
-cut_holds : (k : Rule) → stands_alone k ≡ true → stands_well k ≡ true
-cut_holds k = by_implied (stands_alone k) _ (of_every_rule (λ k. implies (stands_alone k) (stands_well k)) refl refl k)
+cut_holds : (k : Rule) → is_alone k ≡ true → well_placed k ≡ true
+cut_holds k = by_implied (is_alone k) _ (of_every_rule (λ k. implies (is_alone k) (well_placed k)) refl refl k)
 
-pub show_stands_alone : ShowStandsAlone
-show_stands_alone k w ts s r e = go (or_split (cut_well (shown_summary_of false k)) _ (and_right (reads_shown k) _ (cut_holds k w)))
+pub show_is_alone : ShowIsAlone
+show_is_alone k w ts s r e = go (or_split (cut_well (shown_summary_of false k)) _ (and_right (reads_shown k) _ (cut_holds k w)))
   where
     go : (cut_well (shown_summary_of false k) ≡ true) ⊎ (cut_off k ≡ true) → parse_rule k (show s) ≡ Some (s, end)
     go (inl v) = shown_alone k ts s r (and_left (reads_shown k) _ (cut_holds k w)) e (ready_at_end (shown_summary_of false k) (lookahead r) v)
@@ -145,13 +145,13 @@ ready_before p m a w e =
     ready p a (lookahead end) (agree_sound a (lookahead end) [] tt p.ends (and_left (agree p.ends n) _ v))
     (stay_off_sound a (lookahead end) [] tt p.halts (and_left (stay_off p.halts n) _ x)) (clear_sound p.shuns (lookahead end) (and_right (stay_off p.halts n) _ x))
 
-mark_stands : (m : Text) (r : Stream) → known_mark m ≡ true → sees (at_mark m) r ≡ true → mem (lookahead r).terminal (mark_first_set m) ≡ true
-mark_stands m r w e = go (take_mark m r) refl (sym (sees_mark m w r) ∙ e)
+mark_present : (m : Text) (r : Stream) → known_mark m ≡ true → sees (at_mark m) r ≡ true → mem (lookahead r).terminal (mark_first_set m) ≡ true
+mark_present m r w e = go (take_mark m r) refl (sym (sees_mark m w r) ∙ e)
   where
     go : (o : Out) → take_mark m r ≡ o → taken o ≡ true → mem (lookahead r).terminal (mark_first_set m) ≡ true
     go None f e = absurd (true≢false (sym e))
     go (Some x) f e =
-        let (xs, i, q, h) = mark_told m r x f in
+        let (xs, i, q, h) = mark_known m r x f in
         ap (λ l. mem (lookahead r).terminal (mark_first_set l)) (sym q) ∙ mark_head xs r x.1 h
 
 abbrev every_text : (Text → Bool) → List Text → Bool
@@ -166,16 +166,16 @@ text_at p m (x ∷ l) w e = go (or_split (same_text m x) (one_of_texts m l) e) (
     go (inl q) ih = ap p (same_text_eq m x q) ∙ and_left (p x) _ w
     go (inr q) ih = ih (and_right (p x) _ w) q
 
-marks_hold : (k : Rule) → every_text (shown_before k) (stands_before k) ≡ true
-marks_hold k = of_every_rule (λ k. every_text (shown_before k) (stands_before k)) refl refl k
+marks_hold : (k : Rule) → every_text (shown_before k) (is_before k) ≡ true
+marks_hold k = of_every_rule (λ k. every_text (shown_before k) (is_before k)) refl refl k
 
-pub show_stands_before : ShowStandsBefore
-show_stands_before k m w ts s r e f =
-    let u = text_at (shown_before k) m (stands_before k) (marks_hold k) w in
+pub show_is_before : ShowIsBefore
+show_is_before k m w ts s r e f =
+    let u = text_at (shown_before k) m (is_before k) (marks_hold k) w in
     go (and_left (reads_shown k) _ u) (or_split (ends_as (shown_summary_of false k) m) _ (and_right (reads_shown k) _ u))
   where
     go : reads_shown k ≡ true → (ends_as (shown_summary_of false k) m ≡ true) ⊎ (cut_off k ≡ true) → parse_rule k (show s) ≡ Some (s, end)
-    go u (inl v) = shown_alone k ts s r u e (ready_before (shown_summary_of false k) m (lookahead r) v (mark_stands m r (and_left (known_mark m) _ v) f))
+    go u (inl v) = shown_alone k ts s r u e (ready_before (shown_summary_of false k) m (lookahead r) v (mark_present m r (and_left (known_mark m) _ v) f))
     go u (inr v) = shown_cut k ts s r u v e
 
 pub same_show : SameShow

@@ -5,7 +5,7 @@ use Rattle.syn_grammar.specs.Words.{Text, keywords, contextual}
 use Rattle.syn_grammar.specs.Tokens.{Span, Leaf, ident, literal, Stream, end, leaf, punct, group, ◌⧺◌, and, no, pick, same_text, one_of_texts, Word, Name, mem, leaf_terminal}
 use Rattle.syn_grammar.specs.Rules.{Rule}
 use Rattle.syn_grammar.specs.Grammar.{terminals, suits, fits, Kind, Grammar, empty, token, mark, lifetime, ◌&◌, when◌then◌else◌, vanishing, inside, raw, either, one_of, rule, such, captured, unshown, supplied, row, ordered, shaped, generics_before, opt_generics, choose, chars, Spelled, DerivesPrefix, Syntax, Nothing, Token, Mark, Lifetime, Both, Left, Right, Node, Vanishing, Group, Raw, Case, Such, Shaped, Captured, Unshown, Impl, Done, Last, More, Order}
-use Rattle.syn_grammar.specs.ToldByTokens.{is_text, opens_lifetime, no_quote, spares}
+use Rattle.syn_grammar.specs.DecidedByTokens.{is_text, opens_lifetime, no_quote, spares}
 use Rattle.syn_grammar.proofs.Sets.{and_left, and_right, no_true, same_text_eq}
 use Rattle.syn_grammar.proofs.Streams.{append_append}
 use Rattle.syn_grammar.proofs.Alone.{one_said}

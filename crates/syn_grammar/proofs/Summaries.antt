@@ -116,7 +116,7 @@ kept_off c p q k = and_left (every2 (stays_off c) (leave2 c q.moves)) _ (and_rig
 -- the lookahead a of the source and b of the print, where ra and rb follow
 pub data HasLookaheads (p : Summary) (a b ra rb : Lookahead) : Type 0 where
   alike : mem a.terminal p.stays ≡ true → a ≡ b → HasLookaheads p a b ra rb
-  altered : (told : List Fact) → mem2 (move a.terminal b.terminal told) p.moves ≡ true → Agree (each_ahead told) a b → HasLookaheads p a b ra rb
+  altered : (reported : List Fact) → mem2 (move a.terminal b.terminal reported) p.moves ≡ true → Agree (each_ahead reported) a b → HasLookaheads p a b ra rb
   passed : p.nullable ≡ true → a ≡ ra → b ≡ rb → HasLookaheads p a b ra rb
   vanished : mem a.terminal p.gone ≡ true → b ≡ rb → HasLookaheads p a b ra rb
 

@@ -4,7 +4,7 @@ use Rattle.std.proofs.Common.{◌≡◌, ℕ, ◌+◌, ◌-◌, ◌<◌, ◌≤�
 use Rattle.std.specs.Prelude.{nat_lt}
 use Rattle.std.proofs.lemmas.Bool.{eqb-true, eq-eqb, ltb-true, lt-ltb}
 use Rattle.syn_grammar.specs.Words.{Text, keywords, contextual, lifetime_mark}
-use Rattle.syn_grammar.specs.Tokens.{Span, Delimiter, delimiter_number, Leaf, ident, literal, Stream, end, leaf, punct, group, ◌⧺◌, weight, no, pick, one_of_texts, Name, Word, Punctuation, Delimited, join, mem, Look, answers, lookahead, stands, visible, holds_nothing}
+use Rattle.syn_grammar.specs.Tokens.{Span, Delimiter, delimiter_number, Leaf, ident, literal, Stream, end, leaf, punct, group, ◌⧺◌, weight, no, pick, one_of_texts, Name, Word, Punctuation, Delimited, join, mem, Look, answers, lookahead, present, visible, holds_nothing}
 use Rattle.syn_grammar.specs.Grammar.{Kind, terminals, suits, fits, underscore, Syntax, Token, Mark, Lifetime, chars, Spelled, some_tree}
 use Rattle.syn_grammar.specs.Take.{only, left, is_end, lookahead_at, sees, take_token, take_lifetime, Chars, add_char, take_chars, marked, take_mark, Opened, same_delimiter, take_group, length, first, before, leaf_span, first_span}
 use Rattle.syn_grammar.proofs.Sets.{same_delimiter_eq, and_right, group_terminals, group_terminal}
@@ -86,9 +86,9 @@ unfolding left
 span_some ts r sp sq e = let h = span_less ts r sp e in omega (arith, h)
 
 -- ---- what they take, their forms read
-pub sees_stands : (c : Look) (ts : Stream) → sees c ts ≡ stands c ts
+pub sees_present : (c : Look) (ts : Stream) → sees c ts ≡ present c ts
 unfolding sees lookahead_at
-sees_stands c ts = refl
+sees_present c ts = refl
 
 pub end_is : (ts : Stream) → is_end ts ≡ true → ts ≡ end
 unfolding is_end
@@ -108,36 +108,36 @@ tree_is (leaf x sp m) = refl
 tree_is (punct c j sp m) = refl
 tree_is (group d o c i m) = refl
 
-pub token_told : (k : Kind) (ts : Stream) (x : TreeAndRest) → take_token k ts ≡ Some x → (y : Leaf) × (sp : Span) × (x.0 ≡ Token y sp) × (fits k y ≡ true) × (ts ≡ leaf y sp x.1)
+pub token_known : (k : Kind) (ts : Stream) (x : TreeAndRest) → take_token k ts ≡ Some x → (y : Leaf) × (sp : Span) × (x.0 ≡ Token y sp) × (fits k y ≡ true) × (ts ≡ leaf y sp x.1)
 unfolding take_token
-token_told k end x e = absurd (cc e)
-token_told k (leaf y sp r) x e =
+token_known k end x e = absurd (cc e)
+token_known k (leaf y sp r) x e =
     let h = inv_only (fits k y) _ x e in
     let a : x.0 ≡ Token y sp = cc h.1 in
     let b : r ≡ x.1 = cc h.1 in
     (y, sp, a, h.0, ap (leaf y sp) b)
-token_told k (punct c j sp m) x e = absurd (cc e)
-token_told k (group d o c i m) x e = absurd (cc e)
+token_known k (punct c j sp m) x e = absurd (cc e)
+token_known k (group d o c i m) x e = absurd (cc e)
 
 pub token_found : (k : Kind) (y : Leaf) (sp : Span) (ts r : Stream) → fits k y ≡ true → ts ≡ leaf y sp r → take_token k ts ≡ Some (Token y sp, r)
 unfolding take_token
 token_found k y sp ts r h e = ap (take_token k) e ∙ ap (λ b. only b (Some (Token y sp, r))) h
 
-pub lifetime_told : (ts : Stream) (x : TreeAndRest) → take_lifetime ts ≡ Some x → (sp : Span) × (y : Text) × (sq : Span) × (x.0 ≡ Lifetime sp y sq) × (ts ≡ punct 39 true sp (leaf (ident y) sq x.1))
+pub lifetime_known : (ts : Stream) (x : TreeAndRest) → take_lifetime ts ≡ Some x → (sp : Span) × (y : Text) × (sq : Span) × (x.0 ≡ Lifetime sp y sq) × (ts ≡ punct 39 true sp (leaf (ident y) sq x.1))
 unfolding take_lifetime
-lifetime_told (punct c true sp (leaf (ident y) sq r)) x e =
+lifetime_known (punct c true sp (leaf (ident y) sq r)) x e =
     let h = inv_only (nat_eq c 39) _ x e in
     let a : x.0 ≡ Lifetime sp y sq = cc h.1 in
     let b : r ≡ x.1 = cc h.1 in
     (sp, y, sq, a, ap (λ n. punct n true sp (leaf (ident y) sq r)) (eqb-true c 39 h.0) ∙ ap (λ m. punct 39 true sp (leaf (ident y) sq m)) b)
-lifetime_told (punct c true sp (leaf (literal k y) sq r)) x e = absurd (cc e)
-lifetime_told (punct c true sp end) x e = absurd (cc e)
-lifetime_told (punct c true sp (punct c' j' sq m)) x e = absurd (cc e)
-lifetime_told (punct c true sp (group d o q i m)) x e = absurd (cc e)
-lifetime_told (punct c false sp m) x e = absurd (cc e)
-lifetime_told end x e = absurd (cc e)
-lifetime_told (leaf y sp m) x e = absurd (cc e)
-lifetime_told (group d o c i m) x e = absurd (cc e)
+lifetime_known (punct c true sp (leaf (literal k y) sq r)) x e = absurd (cc e)
+lifetime_known (punct c true sp end) x e = absurd (cc e)
+lifetime_known (punct c true sp (punct c' j' sq m)) x e = absurd (cc e)
+lifetime_known (punct c true sp (group d o q i m)) x e = absurd (cc e)
+lifetime_known (punct c false sp m) x e = absurd (cc e)
+lifetime_known end x e = absurd (cc e)
+lifetime_known (leaf y sp m) x e = absurd (cc e)
+lifetime_known (group d o c i m) x e = absurd (cc e)
 
 pub lifetime_found : (sp : Span) (y : Text) (sq : Span) (ts r : Stream) → ts ≡ punct 39 true sp (leaf (ident y) sq r) → take_lifetime ts ≡ Some (Lifetime sp y sq, r)
 unfolding take_lifetime
@@ -151,31 +151,31 @@ longer : (c : ℕ) (f : ℕ) (l : Text) (d : ℕ) (sp : Span) (r : Stream) (q : 
 longer c f l d sp r ([], m) e h = absurd (cc (h.0))
 longer c f l d sp r (y ∷ ys, m) e h = (ap (λ v. v ∷ chars (y ∷ ys)) e ∙ ap (λ v. c ∷ v) h.0, (r, refl, h.1))
 
-chars_told : (cs : Text) (ts : Stream) (x : Spelling) → take_chars cs ts ≡ Some x → Marked cs ts x
-chars_told [] ts x e = absurd (cc e)
-chars_told (c ∷ []) (punct d j sp r) x e =
+chars_known : (cs : Text) (ts : Stream) (x : Spelling) → take_chars cs ts ≡ Some x → Marked cs ts x
+chars_known [] ts x e = absurd (cc e)
+chars_known (c ∷ []) (punct d j sp r) x e =
     let h = inv_only (nat_eq d c) _ x e in
     let a : ◌≡◌ {A = Spelling} ((d, sp) ∷ [], r) x = cc h.1 in
     subst (Marked (c ∷ []) (punct d j sp r)) a (ap (λ v. v ∷ []) (eqb-true d c h.0), (j, refl))
-chars_told (c ∷ f ∷ l) (punct d true sp r) x e =
+chars_known (c ∷ f ∷ l) (punct d true sp r) x e =
     let h = inv_only (nat_eq d c) _ x e in
-    more (take_chars (f ∷ l) r) refl (eqb-true d c h.0) (λ p h. chars_told (f ∷ l) r p h) h.1
+    more (take_chars (f ∷ l) r) refl (eqb-true d c h.0) (λ p h. chars_known (f ∷ l) r p h) h.1
   where
     more : (o : Chars) → take_chars (f ∷ l) r ≡ o → d ≡ c → ((p : Spelling) → take_chars (f ∷ l) r ≡ Some p → Marked (f ∷ l) r p) → add_char d sp o ≡ Some x → Marked (c ∷ f ∷ l) (punct d true sp r) x
     more None h q u e = absurd (cc e)
     more (Some p) h q u e = let a : ◌≡◌ {A = Spelling} ((d, sp) ∷ p.0, p.1) x = cc e in subst (Marked (c ∷ f ∷ l) (punct d true sp r)) a (longer c f l d sp r p q (u p h))
-chars_told _ _ x e = absurd (cc e)
+chars_known _ _ x e = absurd (cc e)
 
-pub mark_told : (cs : Text) (ts : Stream) (x : TreeAndRest) → take_mark cs ts ≡ Some x → (xs : List (ℕ × Span)) × (x.0 ≡ Mark xs) × (chars xs ≡ cs) × Spelled xs ts x.1
+pub mark_known : (cs : Text) (ts : Stream) (x : TreeAndRest) → take_mark cs ts ≡ Some x → (xs : List (ℕ × Span)) × (x.0 ≡ Mark xs) × (chars xs ≡ cs) × Spelled xs ts x.1
 unfolding take_mark
-mark_told cs ts x e = go (take_chars cs ts) refl e
+mark_known cs ts x e = go (take_chars cs ts) refl e
   where
     go : (o : Chars) → take_chars cs ts ≡ o → marked o ≡ Some x → (xs : List (ℕ × Span)) × (x.0 ≡ Mark xs) × (chars xs ≡ cs) × Spelled xs ts x.1
     go None h e = absurd (cc e)
     go (Some p) h e =
         let a : x.0 ≡ Mark p.0 = cc e in
         let b : p.1 ≡ x.1 = cc e in
-        let c = chars_told cs ts p h in
+        let c = chars_known cs ts p h in
         (p.0, a, c.0, subst (Spelled p.0 ts) b c.1)
 
 chars_found : (xs : List (ℕ × Span)) (ts r : Stream) → Spelled xs ts r → take_chars (chars xs) ts ≡ Some (xs, r)
@@ -221,14 +221,14 @@ before_is ts c r e =
     let n : length (c ⧺ r) - length r ≡ length c = let l = length_append c r in omega arith in
     ap (λ t. first (length t - length r) t) e ∙ ap (λ n. first n (c ⧺ r)) n ∙ first_append c r
 
-pub span_told : (ts c r : Stream) (sp : Span) → ts ≡ c ⧺ r → first_span ts r ≡ Some sp → (x : Leaf) × (d : Stream) × (ts ≡ leaf x sp (d ⧺ r))
+pub span_known : (ts c r : Stream) (sp : Span) → ts ≡ c ⧺ r → first_span ts r ≡ Some sp → (x : Leaf) × (d : Stream) × (ts ≡ leaf x sp (d ⧺ r))
 unfolding first_span
-span_told ts end r sp e f = absurd (less_than_itself (left r) (subst (λ z. left r < left z) e (ltb-true (left r) (left ts) (inv_only (nat_lt (left r) (left ts)) (leaf_span ts) sp f).0)))
-span_told ts (leaf x sq d) r sp e f =
+span_known ts end r sp e f = absurd (less_than_itself (left r) (subst (λ z. left r < left z) e (ltb-true (left r) (left ts) (inv_only (nat_lt (left r) (left ts)) (leaf_span ts) sp f).0)))
+span_known ts (leaf x sq d) r sp e f =
     let a : sq ≡ sp = cc (sym (ap leaf_span e) ∙ (inv_only (nat_lt (left r) (left ts)) (leaf_span ts) sp f).1) in
     (x, d, e ∙ ap (λ z. leaf x z (d ⧺ r)) a)
-span_told ts (punct c j sq d) r sp e f = absurd (cc (sym (ap leaf_span e) ∙ (inv_only (nat_lt (left r) (left ts)) (leaf_span ts) sp f).1))
-span_told ts (group g o c i d) r sp e f = absurd (cc (sym (ap leaf_span e) ∙ (inv_only (nat_lt (left r) (left ts)) (leaf_span ts) sp f).1))
+span_known ts (punct c j sq d) r sp e f = absurd (cc (sym (ap leaf_span e) ∙ (inv_only (nat_lt (left r) (left ts)) (leaf_span ts) sp f).1))
+span_known ts (group g o c i d) r sp e f = absurd (cc (sym (ap leaf_span e) ∙ (inv_only (nat_lt (left r) (left ts)) (leaf_span ts) sp f).1))
 
 pub span_found : (x : Leaf) (sp : Span) (ts d r : Stream) → ts ≡ leaf x sp (d ⧺ r) → first_span ts r ≡ Some sp
 unfolding first_span left
@@ -237,14 +237,14 @@ span_found x sp ts d r e =
     ap (λ z. only (nat_lt (weight r) (weight z)) (leaf_span z)) e ∙ ap (λ b. only b (Some sp)) (lt-ltb (weight r) (weight (leaf x sp (d ⧺ r))) h)
 
 -- ---- the same where the stream is said to be visible, as callers are
-pub sees_is : (c : Look) (ts : Stream) → visible ts ≡ true → sees c ts ≡ stands c ts
-sees_is c ts v = sees_stands c ts
+pub sees_is : (c : Look) (ts : Stream) → visible ts ≡ true → sees c ts ≡ present c ts
+sees_is c ts v = sees_present c ts
 
-pub end_told : (ts : Stream) → visible ts ≡ true → is_end ts ≡ true → ts ≡ end
-end_told ts v e = end_is ts e
+pub end_known : (ts : Stream) → visible ts ≡ true → is_end ts ≡ true → ts ≡ end
+end_known ts v e = end_is ts e
 
-pub group_told : (d : Delimiter) (ts : Stream) (g : Opened) → visible ts ≡ true → take_group d ts ≡ Some g → ts ≡ group d g.opening g.closing g.content g.rest
-group_told d ts g v e = group_taken d ts g e
+pub group_known : (d : Delimiter) (ts : Stream) (g : Opened) → visible ts ≡ true → take_group d ts ≡ Some g → ts ≡ group d g.opening g.closing g.content g.rest
+group_known d ts g v e = group_taken d ts g e
 
 pub group_found : (d : Delimiter) (o c : Span) (i ts r : Stream) → visible ts ≡ true → ts ≡ group d o c i r → take_group d ts ≡ Some (record { opening = o; closing = c; content = i; rest = r })
 group_found d o c i ts r v e = group_takes d o c i ts r e
@@ -267,7 +267,7 @@ mark_begins cs ts x e = go (take_chars cs ts) refl e
   where
     go : (o : Chars) → take_chars cs ts ≡ o → marked o ≡ Some x → mem (lookahead ts).terminal (mark_first_set cs) ≡ true
     go None h e = absurd (cc e)
-    go (Some p) h e = let c = chars_told cs ts p h in ap (λ l. mem (lookahead ts).terminal (mark_first_set l)) (sym c.0) ∙ mark_head p.0 ts p.1 c.1
+    go (Some p) h e = let c = chars_known cs ts p h in ap (λ l. mem (lookahead ts).terminal (mark_first_set l)) (sym c.0) ∙ mark_head p.0 ts p.1 c.1
 
 lifetime_terminal : (sp : Span) (y : Text) (sq : Span) (r : Stream) → (lookahead (punct 39 true sp (leaf (ident y) sq r))).terminal ≡ Punctuation lifetime_mark
 lifetime_terminal sp y sq r = go (one_of_texts y (keywords ++ contextual))

@@ -13,7 +13,7 @@ use Rattle.syn_grammar.specs.Plan.{Plan, reads, turns, tests, keeps, ends, done,
 use Rattle.syn_grammar.proofs.Sets.{or_split, and_left, and_right, same_text_eq, same_look, same_look_eq}
 use Rattle.syn_grammar.proofs.FormEquality.{same, same_eq, same_choice, same_choice_eq, same_test, same_test_eq}
 use Rattle.syn_grammar.proofs.RuleLemmas.{same_rule_eq}
-use Rattle.syn_grammar.proofs.Takes.{token_told, group_taken, sees_answers}
+use Rattle.syn_grammar.proofs.Takes.{token_known, group_taken, sees_answers}
 use Rattle.syn_grammar.proofs.Run.{parse_rule_is}
 use Rattle.syn_grammar.proofs.Begins.{only_at, never_at, not_there, not_here}
 use Rattle.syn_grammar.proofs.Known.{Holds, Known, after_token, after_token_is, clash, clash_is, inside_group, inside_group_is, not_false, not_true, noted, noted_is, some_is}
@@ -169,7 +169,7 @@ gone_token b k l fs m h f = go (take_token k m) refl
   where
     go : (o : Out) → take_token k m ≡ o → onward (rest o) (recog fs) ≡ None
     go None e = refl
-    go (Some p) e = let t = token_told k m p e in f p.1 (at_token k l t.0 t.1 m p.1 t.4 t.3 h)
+    go (Some p) e = let t = token_known k m p e in f p.1 (at_token k l t.0 t.1 m p.1 t.4 t.3 h)
 
 pub named_one : (k : Rule) (o : Out) → named k (wrap Node o) None ≡ wrap (Case k) o
 named_one k (Some x) = refl
@@ -242,7 +242,7 @@ pub data Frame : Type 0 where
   in_shape : Shape → Frame
   in_vanishing : Bool → Frame
   in_such : Test → Frame
-  and_behind : Grammar → Frame  -- then this form, after generics
+  and_after : Grammar → Frame  -- then this form, after generics
   with_generics : Syntax → Frame  -- what follows these generics
 
 abbrev pub apply : Frame → Out → Out
@@ -255,7 +255,7 @@ apply (in_case k) o = wrap (Case k) o
 apply (in_shape j) o = wrap (shape j) o
 apply (in_vanishing b) o = vanish b o
 apply (in_such q) o = such_as q o
-apply (and_behind h) o = and_impl o (parse_form h)
+apply (and_after h) o = and_impl o (parse_form h)
 apply (with_generics s) o = wrap (Impl s) o
 
 abbrev pub resume : List Frame → Out → Out
@@ -272,7 +272,7 @@ apply_none (in_case k) = refl
 apply_none (in_shape j) = refl
 apply_none (in_vanishing b) = refl
 apply_none (in_such q) = refl
-apply_none (and_behind h) = refl
+apply_none (and_after h) = refl
 apply_none (with_generics s) = refl
 
 pub resume_none : (k : List Frame) → resume k None ≡ None
@@ -299,7 +299,7 @@ back (in_case l ∷ k) s = back k (Case l s)
 back (in_shape j ∷ k) s = back k (shape j s)
 back (in_vanishing b ∷ k) s = back k (Vanishing b (pick b (Right Nothing) s))
 back (in_such q ∷ k) s = holding s (in_such q ∷ k)
-back (and_behind h ∷ k) s = reading h (with_generics s ∷ k)
+back (and_after h ∷ k) s = reading h (with_generics s ∷ k)
 back (with_generics t ∷ k) s = back k (Impl t s)
 
 pub back_is : (k : List Frame) (s : Syntax) (m : Stream) → out (back k s) m ≡ resume k (Some (s, m))
@@ -313,7 +313,7 @@ back_is (in_case l ∷ k) s m = back_is k (Case l s) m
 back_is (in_shape j ∷ k) s m = back_is k (shape j s) m
 back_is (in_vanishing b ∷ k) s m = back_is k (Vanishing b (pick b (Right Nothing) s)) m
 back_is (in_such q ∷ k) s m = refl
-back_is (and_behind h ∷ k) s m = refl
+back_is (and_after h ∷ k) s m = refl
 back_is (with_generics t ∷ k) s m = back_is k (Impl t s) m
 
 -- Nothing that was read is lost on the way back (true: no token of it is shown): a part that is never printed holds only values that
@@ -321,7 +321,7 @@ back_is (with_generics t ∷ k) s m = back_is k (Impl t s) m
 abbrev pub calm : Bool → List Frame → Bool
 calm q [] = true
 calm q (and_next h ∷ k) = true
-calm q (and_behind h ∷ k) = true
+calm q (and_after h ∷ k) = true
 calm q (in_such t ∷ k) = true
 calm q (beside t ∷ k) = calm false k
 calm q (with_generics t ∷ k) = calm false k
@@ -344,7 +344,7 @@ step l empty k = only (calm true k) (Some (back k Nothing))
 step l unshown k = only (calm true k) (Some (back k (Unshown Nothing)))
 step l (shaped j x) k = Some (reading x (in_shape j ∷ k))
 step l (such q x) k = Some (reading x (in_such q ∷ k))
-step l (generics_before x y h) k = Some (reading (opt_generics x y) (and_behind h ∷ k))
+step l (generics_before x y h) k = Some (reading (opt_generics x y) (and_after h ∷ k))
 step l (one_of (r ∷ [])) k = Some (reading (table r) (in_case r ∷ k))
 step l g k = None
 
@@ -372,7 +372,7 @@ step_is l empty k t m e w = sym (back_is k Nothing m) ∙ ap (λ z. out z m) (st
 step_is l unshown k t m e w = sym (back_is k (Unshown Nothing) m) ∙ ap (λ z. out z m) (state_is (back k (Unshown Nothing)) t (only_is (calm true k) (back k (Unshown Nothing)) t e).1)
 step_is l (shaped j x) k t m e w = ap (λ z. out z m) (state_is (reading x (in_shape j ∷ k)) t e)
 step_is l (such q x) k t m e w = ap (λ z. out z m) (state_is (reading x (in_such q ∷ k)) t e)
-step_is l (generics_before x y h) k t m e w = ap (λ z. out z m) (state_is (reading (opt_generics x y) (and_behind h ∷ k)) t e)
+step_is l (generics_before x y h) k t m e w = ap (λ z. out z m) (state_is (reading (opt_generics x y) (and_after h ∷ k)) t e)
 step_is l (token b x) k t m e w = absurd (cc e)
 step_is l (mark b x) k t m e w = absurd (cc e)
 step_is l lifetime k t m e w = absurd (cc e)
@@ -464,7 +464,7 @@ finish_is (suc n) l (reading g k) s m e w = go (step l g k) refl (λ t q. finish
 abbrev pub todos : List Frame → List Grammar
 todos [] = []
 todos (and_next h ∷ k) = h ∷ todos k
-todos (and_behind h ∷ k) = h ∷ todos k
+todos (and_after h ∷ k) = h ∷ todos k
 todos (f ∷ k) = todos k
 
 abbrev pub todo : State → List Grammar
@@ -475,7 +475,7 @@ pub todos_none : (k : List Frame) (o : Out) → onward (rest o) (recog (todos k)
 todos_none k None e = resume_none k
 todos_none [] (Some p) e = absurd (cc e)
 todos_none (and_next h ∷ k) (Some p) e = todos_none k (wrap (Both p.0) (parse_form h p.1)) (ap (λ z. onward z (recog (todos k))) (rest_wrap (Both p.0) (parse_form h p.1)) ∙ e)
-todos_none (and_behind h ∷ k) (Some p) e = todos_none k (wrap (Impl p.0) (parse_form h p.1)) (ap (λ z. onward z (recog (todos k))) (rest_wrap (Impl p.0) (parse_form h p.1)) ∙ e)
+todos_none (and_after h ∷ k) (Some p) e = todos_none k (wrap (Impl p.0) (parse_form h p.1)) (ap (λ z. onward z (recog (todos k))) (rest_wrap (Impl p.0) (parse_form h p.1)) ∙ e)
 todos_none (beside s ∷ k) (Some p) e = todos_none k (Some (Both s p.0, p.1)) e
 todos_none (in_left ∷ k) (Some p) e = todos_none k (Some (Left p.0, p.1)) e
 todos_none (in_right ∷ k) (Some p) e = todos_none k (Some (Right p.0, p.1)) e
@@ -866,7 +866,7 @@ passed_is q s b (holding u (in_node ∷ k)) m w h = elim w [ ]
 passed_is q s b (holding u (in_case x ∷ k)) m w h = elim w [ ]
 passed_is q s b (holding u (in_shape x ∷ k)) m w h = elim w [ ]
 passed_is q s b (holding u (in_vanishing x ∷ k)) m w h = elim w [ ]
-passed_is q s b (holding u (and_behind x ∷ k)) m w h = elim w [ ]
+passed_is q s b (holding u (and_after x ∷ k)) m w h = elim w [ ]
 passed_is q s b (holding u (with_generics x ∷ k)) m w h = elim w [ ]
 passed_is q s b (holding u []) m w h = elim w [ ]
 passed_is q s b (reading g k) m w h = elim w [ ]

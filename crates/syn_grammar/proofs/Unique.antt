@@ -2,7 +2,7 @@
 use Rattle.std.proofs.Common.{◌≡◌, ℕ, zero, suc, Bool, true, false, List, [], ◌∷◌, refl, sym, ap, ◌∙◌, ap₂, subst, true≢false, ◌⊎◌, inl, inr}
 use Rattle.syn_grammar.specs.Words.{Text}
 use Rattle.syn_grammar.specs.Shape.{Shape}
-use Rattle.syn_grammar.specs.Tokens.{Span, Delimiter, Leaf, Stream, end, ident, ◌⧺◌, or, and, no, lookahead, stands, mem}
+use Rattle.syn_grammar.specs.Tokens.{Span, Delimiter, Leaf, Stream, end, ident, ◌⧺◌, or, and, no, lookahead, present, mem}
 use Rattle.syn_grammar.specs.Rules.{Rule}
 use Rattle.syn_grammar.specs.RuleNumbers.{same_rule}
 use Rattle.syn_grammar.specs.Grammar.{Syntax, Nothing, Token, Mark, Lifetime, Both, Left, Right, Node, Vanishing, Group, Raw, Rest, Case, Captured, Unshown, Impl, Added, Done, Last, More, Order, Such, Spelled, DerivesPrefix, Grammar, empty, token, mark, lifetime, ◌&◌, when◌then◌else◌, vanishing, inside, raw, rest_after, either, one_of, rule, such, captured, unshown, supplied, generics_before, opt_generics, holds, row, ordered, choose, among, underscore, at_row_comma, Shaped, shaped}
@@ -236,7 +236,7 @@ module _ (table : Rule → Grammar) (said : Rule → Start) where
 
     -- one side of a form that turns
     abbrev Sided : Grammar → Syntax → Stream → Stream → Type 0
-    Sided g s ts r = (v : Bool) × (s' : Syntax) × (stands (turn_of g) ts ≡ v) × DerivesPrefix table (on_side v g) s' ts r × (Parts s → Parts s') × (sound (on_side v g) ≡ true)
+    Sided g s ts r = (v : Bool) × (s' : Syntax) × (present (turn_of g) ts ≡ v) × DerivesPrefix table (on_side v g) s' ts r × (Parts s → Parts s') × (sound (on_side v g) ≡ true)
 
     sided : (g : Grammar) (s : Syntax) (ts r : Stream) → turns g ≡ true → sound g ≡ true → DerivesPrefix table g s ts r → Sided g s ts r
     sided (when c then a else b) (Left s) ts r e w x = (true, s, x.0, x.1, λ q. q.1, and_left (sound a) _ w)
@@ -281,8 +281,8 @@ module _ (table : Rule → Grammar) (said : Rule → Start) where
         both : and (turns g) (turns h) ≡ true
         both = and_left (and (turns g) (turns h)) _ e
 
-        same_turn : stands (turn_of g) ts ≡ stands (turn_of h) ts
-        same_turn = ap (λ z. stands z ts) (same_look_eq (turn_of g) (turn_of h) (and_right (and (turns g) (turns h)) _ e))
+        same_turn : present (turn_of g) ts ≡ present (turn_of h) ts
+        same_turn = ap (λ z. present z ts) (same_look_eq (turn_of g) (turn_of h) (and_right (and (turns g) (turns h)) _ e))
 
         go : Sided g s ts r → Sided h s' ts r' → ⊥
         go (true, a, q, x', i, u) (true, b, q', y', i', u') = ih (on_side true g) (on_side true h) a b ts r r' (and_left (apart n (on_side true g) (on_side true h)) _ f) u u' (on_right i' (on_left i p)) x' y'
@@ -294,9 +294,9 @@ module _ (table : Rule → Grammar) (said : Rule → Start) where
     apart_sound zero g h s s' ts r r' e w v p x y = true≢false (sym e)
     apart_sound (suc n) g h s s' ts r r' e w v p x y = go (or (opposed g h) (disjoint g h)) refl e (apart_sound n)
       where
-        told : (opposed g h ≡ true) ⊎ (disjoint g h ≡ true) → ⊥
-        told (inl q) = opposed_sound g h s s' ts r r' q w v p x y
-        told (inr q) = disjoint_sound g h s s' ts r r' q x y
+        reported : (opposed g h ≡ true) ⊎ (disjoint g h ≡ true) → ⊥
+        reported (inl q) = opposed_sound g h s s' ts r r' q w v p x y
+        reported (inr q) = disjoint_sound g h s s' ts r r' q x y
 
         go3 : Apart n → (b : Bool) → some_form (open_form g) ≡ b → elim b [
           | true ↦ all_forms (λ x. apart n x h) (open_form g)
@@ -354,7 +354,7 @@ module _ (table : Rule → Grammar) (said : Rule → Start) where
                 ]
           ]
         ] ≡ true → Apart n → ⊥
-        go true f e ih = told (or_split (opposed g h) (disjoint g h) f)
+        go true f e ih = reported (or_split (opposed g h) (disjoint g h) f)
         go false f e ih = go2 ih (or (shared g h) (trailed g h)) refl e
 
     step_left : (s : Syntax) → Unique s → Parts s → Unique (Left s)
@@ -530,7 +530,7 @@ module _ (table : Rule → Grammar) (said : Rule → Start) where
         (ap₂ Last q.0 q.1, q.2)
     step_last k s u p (row g h) w ts r (More k' s' sp t) r' a b =
         let q = row_same g h k k' s s' ts r b.1 w u p a.1 b.2 in
-        absurd (true≢false (sym (comma_lookahead b.4.0 sp b.1 b.3 b.4.1) ∙ ap (stands at_row_comma) (sym q.2) ∙ a.2))
+        absurd (true≢false (sym (comma_lookahead b.4.0 sp b.1 b.3 b.4.1) ∙ ap (present at_row_comma) (sym q.2) ∙ a.2))
     step_last k s u p (row g h) w ts r _ r' a b = elim b [ ]
     step_last k s u p _ w ts r s' r' a b = elim a [ ]
 
@@ -538,7 +538,7 @@ module _ (table : Rule → Grammar) (said : Rule → Start) where
     step_more k s sp t u p v (row g h) w ts r Done r' a b = absurd (true≢false (sym b.0 ∙ a.0))
     step_more k s sp t u p v (row g h) w ts r (Last k' s') r' a b =
         let q = row_same g h k k' s s' ts a.1 r' w u p a.2 b.1 in
-        absurd (true≢false (sym (comma_lookahead a.4.0 sp a.1 a.3 a.4.1) ∙ ap (stands at_row_comma) q.2 ∙ b.2))
+        absurd (true≢false (sym (comma_lookahead a.4.0 sp a.1 a.3 a.4.1) ∙ ap (present at_row_comma) q.2 ∙ b.2))
     step_more k s sp t u p v (row g h) w ts r (More k' s' sp' t') r' a b =
         let q = row_same g h k k' s s' ts a.1 b.1 w u p a.2 b.2 in
         let d = sym a.4.1 ∙ (q.2 ∙ b.4.1) in

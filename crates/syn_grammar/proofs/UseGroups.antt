@@ -1,6 +1,6 @@
 -- The two rules for the trees of a use in braces agree where no tree begins with `::`.
 use Rattle.std.proofs.Common.{◌≡◌, Bool, true, false, Some, refl, sym, ap, ap₂, ◌∙◌, true≢false, ◌⊎◌, inl, inr}
-use Rattle.syn_grammar.specs.Tokens.{Stream, end, or, and, stands, lookahead}
+use Rattle.syn_grammar.specs.Tokens.{Stream, end, or, and, present, lookahead}
 use Rattle.syn_grammar.specs.Rules.{Rule, use_tree, use_trees, rooted_tree, rooted_trees, root_mark}
 use Rattle.syn_grammar.specs.RuleNumbers.{same_rule}
 use Rattle.syn_grammar.specs.Grammar.{Grammar, Syntax, Nothing, Token, Mark, Both, Left, Right, Node, Case, Group, DerivesPrefix, empty, token, mark, ◌&◌, when◌then◌else◌, inside, rule, has, has_part}
@@ -10,28 +10,28 @@ use Rattle.syn_grammar.specs.UseGroups.{rooted, unrooted, UseGroups}
 use Rattle.syn_grammar.proofs.RuleLemmas.{same_rule_eq}
 use Rattle.syn_grammar.proofs.Sets.{or_split, and_left, and_right}
 use Rattle.syn_grammar.proofs.Run.{parse_rule_is}
-use Rattle.syn_grammar.proofs.Takes.{sees_stands}
+use Rattle.syn_grammar.proofs.Takes.{sees_present}
 use Rattle.syn_grammar.proofs.Alone.{of_every_rule, implies, by_implied}
 use Rattle.syn_grammar.proofs.Begins.{not_here}
-use Rattle.syn_grammar.proofs.Means.{holds_value, parse_rule_told, parse_rule_found}
+use Rattle.syn_grammar.proofs.Means.{holds_value, parse_rule_known, parse_rule_found}
 use Rattle.syn_grammar.proofs.Grows.{brace_terminal}
 
 -- no tree begins with `::`
-not_colons : (s : Syntax) (ts r : Stream) → DerivesPrefix table (table use_tree) s ts r → stands at_colons ts ≡ false
-not_colons s ts r d = go (stands at_colons ts) refl
+not_colons : (s : Syntax) (ts r : Stream) → DerivesPrefix table (table use_tree) s ts r → present at_colons ts ≡ false
+not_colons s ts r d = go (present at_colons ts) refl
   where
-    go : (v : Bool) → stands at_colons ts ≡ v → v ≡ false
+    go : (v : Bool) → present at_colons ts ≡ v → v ≡ false
     go false e = refl
-    go true e = absurd (cc (sym (parse_rule_found use_tree ts (Node s) r d) ∙ parse_rule_is use_tree ts ∙ ap (wrap Node) (not_here at_colons (table use_tree) refl ts (sees_stands at_colons ts ∙ e))))
+    go true e = absurd (cc (sym (parse_rule_found use_tree ts (Node s) r d) ∙ parse_rule_is use_tree ts ∙ ap (wrap Node) (not_here at_colons (table use_tree) refl ts (sees_present at_colons ts ∙ e))))
 
 -- a brace group is no mark
-no_star : (ts : Stream) → stands at_brace ts ≡ true → stands at_star ts ≡ false
+no_star : (ts : Stream) → present at_brace ts ≡ true → present at_star ts ≡ false
 no_star ts e = let (v, f) = brace_terminal (lookahead ts).terminal e in cc (f)
 
-no_brace : (ts : Stream) → stands at_star ts ≡ true → stands at_brace ts ≡ false
-no_brace ts e = go (stands at_brace ts) refl
+no_brace : (ts : Stream) → present at_star ts ≡ true → present at_brace ts ≡ false
+no_brace ts e = go (present at_brace ts) refl
   where
-    go : (v : Bool) → stands at_brace ts ≡ v → v ≡ false
+    go : (v : Bool) → present at_brace ts ≡ v → v ≡ false
     go false q = refl
     go true q = absurd (true≢false (sym e ∙ no_star ts q))
 
@@ -177,7 +177,7 @@ pub use_groups : UseGroups
 use_groups ts s r = (first, second)
   where
     first : parse_rule use_trees ts ≡ Some (Node s, r) → (parse_rule rooted_trees ts ≡ Some (Node (rooted s), r)) × ((has_part root_mark (rooted s) ≡ false) × (unrooted (rooted s) ≡ s))
-    first e = let (t, d, h) = parse_rule_told use_trees ts (Node s, r) e in go t d h
+    first e = let (t, d, h) = parse_rule_known use_trees ts (Node s, r) e in go t d h
       where
         go : (t : Syntax) → DerivesPrefix table (rule use_trees) t ts r → value_of t ≡ Node s → (parse_rule rooted_trees ts ≡ Some (Node (rooted s), r)) × ((has_part root_mark (rooted s) ≡ false) × (unrooted (rooted s) ≡ s))
         go (Node t) d h =
@@ -189,7 +189,7 @@ use_groups ts s r = (first, second)
         go _ d h = elim d [ ]
 
     second : parse_rule rooted_trees ts ≡ Some (Node s, r) → has_part root_mark s ≡ false → (parse_rule use_trees ts ≡ Some (Node (unrooted s), r)) × (rooted (unrooted s) ≡ s)
-    second e w = let (t, d, h) = parse_rule_told rooted_trees ts (Node s, r) e in go t d h
+    second e w = let (t, d, h) = parse_rule_known rooted_trees ts (Node s, r) e in go t d h
       where
         go : (t : Syntax) → DerivesPrefix table (rule rooted_trees) t ts r → value_of t ≡ Node s → (parse_rule use_trees ts ≡ Some (Node (unrooted s), r)) × (rooted (unrooted s) ≡ s)
         go (Node t) d h =

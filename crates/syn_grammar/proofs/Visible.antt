@@ -2,7 +2,7 @@
 use Rattle.std.proofs.Common.{◌≡◌, ℕ, Bool, true, false, List, [], ◌∷◌, refl, sym, ap, ◌∙◌, ap₂, inl, inr}
 use Rattle.syn_grammar.specs.Tokens.{Span, Delimiter, Stream, end, punct, group, ◌⧺◌, and, or, pick, is_visible, visible}
 use Rattle.syn_grammar.specs.Rules.{Rule}
-use Rattle.syn_grammar.specs.Grammar.{Syntax, Nothing, Token, Mark, Lifetime, Both, Left, Right, Node, Vanishing, Group, Raw, Rest, Case, Captured, Unshown, Impl, Added, Done, Last, More, Order, Such, added, spell, Spelled, DerivesPrefix, Grammar, empty, token, mark, lifetime, ◌&◌, when◌then◌else◌, vanishing, inside, raw, rest_after, either, one_of, rule, such, captured, unshown, supplied, generics_before, opt_generics, no_generics, row, ordered, choose, underscore, bare, show, behind, sort, renew, print, Shaped, shaped, led}
+use Rattle.syn_grammar.specs.Grammar.{Syntax, Nothing, Token, Mark, Lifetime, Both, Left, Right, Node, Vanishing, Group, Raw, Rest, Case, Captured, Unshown, Impl, Added, Done, Last, More, Order, Such, added, spell, Spelled, DerivesPrefix, Grammar, empty, token, mark, lifetime, ◌&◌, when◌then◌else◌, vanishing, inside, raw, rest_after, either, one_of, rule, such, captured, unshown, supplied, generics_before, opt_generics, no_generics, row, ordered, choose, underscore, bare, show, following, sort, renew, print, Shaped, shaped, led}
 use Rattle.syn_grammar.proofs.Sets.{and_left, and_right}
 use Rattle.syn_grammar.proofs.Streams.{visible_append}
 
@@ -68,14 +68,14 @@ visible_show (Order xs l ys) = visible_spell xs (show l ⧺ spell ys end) ∙ vi
 both_true : (a b : Bool) → a ≡ true → b ≡ true → and a b ≡ true
 both_true a b e f = ap₂ and e f
 
-seen_behind : (s : Syntax) (sp : Span) (t : Syntax) → seen s ≡ true → seen t ≡ true → seen (behind s sp t) ≡ true
-seen_behind s sp (More true x q u) e f = both_true (seen x) _ (and_left (seen x) _ f) (seen_behind s sp u e (and_right (seen x) _ f))
-seen_behind s sp (Last true x) e f = both_true (seen x) _ f (both_true (seen s) true e refl)
-seen_behind s sp t e f = both_true (seen s) (seen t) e f
+seen_after : (s : Syntax) (sp : Span) (t : Syntax) → seen s ≡ true → seen t ≡ true → seen (following s sp t) ≡ true
+seen_after s sp (More true x q u) e f = both_true (seen x) _ (and_left (seen x) _ f) (seen_after s sp u e (and_right (seen x) _ f))
+seen_after s sp (Last true x) e f = both_true (seen x) _ f (both_true (seen s) true e refl)
+seen_after s sp t e f = both_true (seen s) (seen t) e f
 
 seen_sort : (s : Syntax) → seen s ≡ true → seen (sort s) ≡ true
 seen_sort (More true s sp t) e = both_true (seen s) _ (and_left (seen s) _ e) (seen_sort t (and_right (seen s) _ e))
-seen_sort (More false s sp t) e = seen_behind s sp (sort t) (and_left (seen s) _ e) (seen_sort t (and_right (seen s) _ e))
+seen_sort (More false s sp t) e = seen_after s sp (sort t) (and_left (seen s) _ e) (seen_sort t (and_right (seen s) _ e))
 seen_sort _ e = e
 
 seen_renew : (s : Syntax) → seen s ≡ true → seen (renew s) ≡ true

@@ -3,7 +3,7 @@ use Rattle.std.specs.Prelude.{◌≡◌, ◌↔◌, ℕ, zero, suc, Bool, true, 
 use Rattle.syn_grammar.specs.Words.{Text, long_marks}
 use Rattle.syn_grammar.specs.Tokens.{Stream, end, plain, or, and, no, begins_text, one_of_texts, Punctuation, Asked, asked, Look, at_mark, ahead, ◌or_else◌, ◌and_also◌, ◌but_not◌, lookahead, answers}
 use Rattle.syn_grammar.specs.Rules.{Rule}
-use Rattle.syn_grammar.specs.StandsAlone.{reads_shown, stands_alone, stands_before}
+use Rattle.syn_grammar.specs.IsAlone.{reads_shown, is_alone, is_before}
 use Rattle.syn_grammar.specs.Grammar.{Syntax, show, plain_syntax, Grammar, empty, token, mark, ◌&◌, when◌then◌else◌, inside, raw, either, one_of, rule, such, shaped, captured, unshown, generics_before}
 use Rattle.syn_grammar.specs.Table.{table}
 use Rattle.syn_grammar.specs.Take.{before, sees}
@@ -120,13 +120,13 @@ ValuesForgetSpans = (k : Rule) (a b : Stream) (s t : Syntax) → plain a ≡ pla
 abbrev pub ShowIsRead : Type 0
 ShowIsRead = (k : Rule) → reads_shown k ≡ true → (ts : Stream) (s : Syntax) → parse_rule k ts ≡ Some (s, end) → parse_rule k (show s) ≡ Some (s, end)
 
--- If a rule of `stands_alone` reads a value before a rest, it reads the tokens of that value as a whole, as the same value with the same spans.
-abbrev pub ShowStandsAlone : Type 0
-ShowStandsAlone = (k : Rule) → stands_alone k ≡ true → (ts : Stream) (s : Syntax) (r : Stream) → parse_rule k ts ≡ Some (s, r) → parse_rule k (show s) ≡ Some (s, end)
+-- If a rule of `is_alone` reads a value before a rest, it reads the tokens of that value as a whole, as the same value with the same spans.
+abbrev pub ShowIsAlone : Type 0
+ShowIsAlone = (k : Rule) → is_alone k ≡ true → (ts : Stream) (s : Syntax) (r : Stream) → parse_rule k ts ≡ Some (s, r) → parse_rule k (show s) ≡ Some (s, end)
 
--- The same for a value that a rule reads before a mark of `stands_before`.
-abbrev pub ShowStandsBefore : Type 0
-ShowStandsBefore = (k : Rule) (m : Text) → one_of_texts m (stands_before k) ≡ true → (ts : Stream) (s : Syntax) (r : Stream) → parse_rule k ts ≡ Some (s, r) → sees (at_mark m) r ≡ true → parse_rule k (show s) ≡ Some (s, end)
+-- The same for a value that a rule reads before a mark of `is_before`.
+abbrev pub ShowIsBefore : Type 0
+ShowIsBefore = (k : Rule) (m : Text) → one_of_texts m (is_before k) ≡ true → (ts : Stream) (s : Syntax) (r : Stream) → parse_rule k ts ≡ Some (s, r) → sees (at_mark m) r ≡ true → parse_rule k (show s) ≡ Some (s, end)
 
 -- If a rule of `reads_shown` reads two whole token streams, the values are equal up to spans if and only if their tokens are.
 abbrev pub SameShow : Type 0

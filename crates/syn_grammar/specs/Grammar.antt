@@ -3,7 +3,7 @@
 -- functions of the tree alone.
 use Rattle.std.specs.Prelude.{◌≡◌, ℕ, Bool, true, false, List, [], ◌∷◌, ◌++◌, map, ◌⊎◌, ◌+◌, ◌-◌, ◌*◌, nat_eq, nat_le}
 use Rattle.syn_grammar.specs.Words.{Text, keywords, contextual, w_where, w_underscore, colon, comma, less, greater}
-use Rattle.syn_grammar.specs.Tokens.{Span, call_site, Delimiter, Brace, LitKind, Str, ByteStr, CStr, Byte, Char, Int, Float, Leaf, ident, literal, Stream, end, leaf, punct, group, ◌⧺◌, plain, or, and, no, pick, same_text, Terminal, Name, Word, Literal, mem, leaf_terminal, Look, Fact, at_name, at_generics, at_mark, ahead, ◌and_also◌, stands}
+use Rattle.syn_grammar.specs.Tokens.{Span, call_site, Delimiter, Brace, LitKind, Str, ByteStr, CStr, Byte, Char, Int, Float, Leaf, ident, literal, Stream, end, leaf, punct, group, ◌⧺◌, plain, or, and, no, pick, same_text, Terminal, Name, Word, Literal, mem, leaf_terminal, Look, Fact, at_name, at_generics, at_mark, ahead, ◌and_also◌, present}
 use Rattle.syn_grammar.specs.Rules.{Rule}
 use Rattle.syn_grammar.specs.SelfTypes.{self_types}
 use Rattle.syn_grammar.specs.RuleNumbers.{same_rule}
@@ -245,8 +245,8 @@ DerivesPrefix table (token b k) (Token x sp) ts r = (fits k x ≡ true) × (ts �
 DerivesPrefix table (mark b cs) (Mark xs) ts r = (chars xs ≡ cs) × Spelled xs ts r
 DerivesPrefix table lifetime (Lifetime sp x sq) ts r = ts ≡ punct 39 true sp (leaf (ident x) sq r)
 DerivesPrefix table (g & h) (Both s t) ts r = (m : Stream) × DerivesPrefix table g s ts m × DerivesPrefix table h t m r
-DerivesPrefix table (when c then g else h) (Left s) ts r = (stands c ts ≡ true) × DerivesPrefix table g s ts r
-DerivesPrefix table (when c then g else h) (Right s) ts r = (stands c ts ≡ false) × DerivesPrefix table h s ts r
+DerivesPrefix table (when c then g else h) (Left s) ts r = (present c ts ≡ true) × DerivesPrefix table g s ts r
+DerivesPrefix table (when c then g else h) (Right s) ts r = (present c ts ≡ false) × DerivesPrefix table h s ts r
 DerivesPrefix table (vanishing b c g) (Vanishing b' s) ts r = (b ≡ b') × DerivesPrefix table (when c then g else empty) s ts r
 DerivesPrefix table (inside d g) (Group d' o c s) ts r = (d ≡ d') × (content : Stream) × (ts ≡ group d' o c content r) × DerivesPrefix table g s content end
 DerivesPrefix table (raw d) (Raw d' o c content) ts r = (d ≡ d') × (ts ≡ group d' o c content r)
@@ -260,12 +260,12 @@ DerivesPrefix table (shaped j g) (Shaped j' s) ts r = (j ≡ j') × DerivesPrefi
 DerivesPrefix table (captured g) (Captured s content) ts r = (ts ≡ content ⧺ r) × DerivesPrefix table g s ts r
 DerivesPrefix table unshown (Unshown s) ts r = (s ≡ Nothing) × (ts ≡ r)
 DerivesPrefix table (supplied n p t) (Both a (Both (Mark xs) s)) ts r =
-    ((stands (at_unnamed n) ts ≡ true) × (x : Leaf) × (sp : Span) × (c : Stream) × (ts ≡ leaf x sp (c ⧺ r)) × DerivesPrefix table p a (underscore sp) end × (xs ≡ written colon sp) × DerivesPrefix table t s ts r)
-    ⊎ ((stands (at_unnamed n) ts ≡ false) × (m : Stream) × DerivesPrefix table p a ts m × (chars xs ≡ colon) × (m' : Stream) × Spelled xs m m' × DerivesPrefix table t s m' r)
+    ((present (at_unnamed n) ts ≡ true) × (x : Leaf) × (sp : Span) × (c : Stream) × (ts ≡ leaf x sp (c ⧺ r)) × DerivesPrefix table p a (underscore sp) end × (xs ≡ written colon sp) × DerivesPrefix table t s ts r)
+    ⊎ ((present (at_unnamed n) ts ≡ false) × (m : Stream) × DerivesPrefix table p a ts m × (chars xs ≡ colon) × (m' : Stream) × Spelled xs m m' × DerivesPrefix table t s m' r)
 DerivesPrefix table (generics_before x y h) (Impl l s) ts r = (m : Stream) × DerivesPrefix table (opt_generics x y) l ts m × DerivesPrefix table h s m r
-DerivesPrefix table (row g h) Done ts r = (stands at_row_end ts ≡ true) × (ts ≡ r)
-DerivesPrefix table (row g h) (Last k s) ts r = (stands at_row_end ts ≡ false) × DerivesPrefix table (choose k g h) s ts r × (stands at_row_comma r ≡ false)
-DerivesPrefix table (row g h) (More k s sp t) ts r = (stands at_row_end ts ≡ false) × (m : Stream) × DerivesPrefix table (choose k g h) s ts m
+DerivesPrefix table (row g h) Done ts r = (present at_row_end ts ≡ true) × (ts ≡ r)
+DerivesPrefix table (row g h) (Last k s) ts r = (present at_row_end ts ≡ false) × DerivesPrefix table (choose k g h) s ts r × (present at_row_comma r ≡ false)
+DerivesPrefix table (row g h) (More k s sp t) ts r = (present at_row_end ts ≡ false) × (m : Stream) × DerivesPrefix table (choose k g h) s ts m
     × (m' : Stream) × Spelled ((44, sp) ∷ []) m m' × DerivesPrefix table (row g h) t m' r
 DerivesPrefix table (ordered g h) (Order xs l ys) ts r = (m : Stream) × (chars xs ≡ less) × Spelled xs ts m
     × (m' : Stream) × DerivesPrefix table (row g h) l m m' × (chars ys ≡ greater) × Spelled ys m' r
@@ -330,14 +330,14 @@ show (More k s sp t) = show s ⧺ punct 44 false sp (show t)
 show (Order xs l ys) = spell xs (show l ⧺ spell ys end)
 
 -- puts a member of the second form after all members of the first; a member that is no longer the last gets a comma
-abbrev pub behind : Syntax → Span → Syntax → Syntax
-behind s sp (More true x q u) = More true x q (behind s sp u)
-behind s sp (Last true x) = More true x call_site (More false s sp Done)
-behind s sp t = More false s sp t
+abbrev pub following : Syntax → Span → Syntax → Syntax
+following s sp (More true x q u) = More true x q (following s sp u)
+following s sp (Last true x) = More true x call_site (More false s sp Done)
+following s sp t = More false s sp t
 
 abbrev pub sort : Syntax → Syntax
 sort (More true s sp t) = More true s sp (sort t)
-sort (More false s sp t) = behind s sp (sort t)
+sort (More false s sp t) = following s sp (sort t)
 sort s = s
 
 -- `< >`
@@ -350,13 +350,13 @@ led_part (Both s t) = or (led_part s) (led_part t)
 led_part (Left s) = led_part s
 led_part (Right s) = led_part s
 led_part (Node s) = led_part s
-led_part (Case k s) = or (and (among k self_types) (stands at_generics (show s))) (led_part s)
+led_part (Case k s) = or (and (among k self_types) (present at_generics (show s))) (led_part s)
 led_part (Such s) = led_part s
 led_part _ = false
 
 -- of the part after an impl's generics: it would be parsed as generics, or its self type after `for` would
 abbrev pub led : Syntax → Bool
-led s = or (stands at_generics (show s)) (led_part s)
+led s = or (present at_generics (show s)) (led_part s)
 
 -- the tree that is printed: without optional parts whose list is empty, and with the members of the first form first in ordered lists
 abbrev pub renew : Syntax → Syntax

@@ -255,8 +255,8 @@ unsafe_plan p a v u =
     (signature_end a v absent absent (Node (Left (untag u))) absent)
 
 -- After `const`.
-unfoldable pub behind_const : Place → Syntax → Syntax → Syntax → Plan
-behind_const p a v c =
+unfoldable pub following_const : Place → Syntax → Syntax → Syntax → Plan
+following_const p a v c =
     turns (at_word w_unsafe) (reads (item_word w_unsafe) λ u.
     turns (at_word w_trait or_else at_word w_auto) (trait_plan a v (Left c) (Left u))
     (turns (at_word w_impl) (const_impl_plan p a (Left c) (Left u))
@@ -283,8 +283,8 @@ other_plan p a =
     fails
 
 -- AN ITEM after its attributes and its visibility: the next words decide which kinds of item are possible.
-unfoldable pub behind_visibility : Place → Syntax → Syntax → Plan
-behind_visibility p a v =
+unfoldable pub after_visibility : Place → Syntax → Syntax → Plan
+after_visibility p a v =
     turns (at_word w_struct) (struct_plan a v)
     (turns (at_word w_enum) (enum_plan a v)
     (turns (at_word w_union and_also ahead Begins_item) (union_plan a v)
@@ -303,21 +303,21 @@ behind_visibility p a v =
     turns (at_word w_mod) (module_plan a v (Left u))
     (turns (at_word w_trait or_else at_word w_auto) (trait_plan a v absent (Left u))
     (unsafe_plan p a v u)))
-    (turns (at_word w_const) (reads (item_word w_const) λ c. behind_const p a v c)
+    (turns (at_word w_const) (reads (item_word w_const) λ c. following_const p a v c)
     (turns (at_word w_impl) (bare_impl_plan p a)
     (other_plan p a)))))))))))))))
 
 -- AN ITEM after its attributes: its visibility and the rest.
-unfoldable pub item_behind : Syntax → Plan
-item_behind a =
-    turns (at_word w_pub) (reads (rule visibility) λ v. behind_visibility public a v)
-    (turns at_empty_group (reads (rule visibility) λ v. behind_visibility unwritten a v)
-    (behind_visibility plain a inherited))
+unfoldable pub item_after : Syntax → Plan
+item_after a =
+    turns (at_word w_pub) (reads (rule visibility) λ v. after_visibility public a v)
+    (turns at_empty_group (reads (rule visibility) λ v. after_visibility unwritten a v)
+    (after_visibility plain a inherited))
 
 -- AN ITEM: its attributes and the rest.
 unfoldable pub item_plan : Plan
 item_plan =
-    reads (rule attributes) λ a. item_behind a
+    reads (rule attributes) λ a. item_after a
 
 -- The plan reads exactly what the rule reads, with the same value. Holds for every stream.
 abbrev pub ItemPlan : Type 0

@@ -4,11 +4,11 @@ use Rattle.syn_grammar.specs.Tokens.{Stream, end, ◌⧺◌, visible}
 use Rattle.syn_grammar.specs.Rules.{item, file}
 use Rattle.syn_grammar.specs.Grammar.{Syntax, Both, Right, Node, vacant, print, normal}
 use Rattle.syn_grammar.specs.Laws.{Derives}
-use Rattle.syn_grammar.specs.Listed.{first_part, behind_parts, of_rule}
+use Rattle.syn_grammar.specs.Listed.{first_part, after_parts, of_rule}
 
 -- the inner attributes of a file, which follow its first line and its frontmatter
 abbrev pub attributes_of_file : Syntax → Syntax
-attributes_of_file s = first_part (behind_parts 2 (of_rule s))
+attributes_of_file s = first_part (after_parts 2 (of_rule s))
 
 -- items, in order
 abbrev pub items_among : Syntax → List Syntax
@@ -17,7 +17,7 @@ items_among _ = []
 
 -- and its items, which follow them
 abbrev pub items_of_file : Syntax → List Syntax
-items_of_file s = items_among (behind_parts 3 (of_rule s))
+items_of_file s = items_among (after_parts 3 (of_rule s))
 
 -- the concatenated prints of these trees
 abbrev pub prints : List Syntax → Stream

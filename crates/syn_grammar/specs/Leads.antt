@@ -2,7 +2,7 @@
 -- generics the print tests this on the printed tree (`led`); a parser of impls sees it in the tokens.
 use Rattle.std.specs.Prelude.{◌≡◌, Bool, false, [], ◌∷◌, Some, None}
 use Rattle.syn_grammar.specs.Words.{w_for, exclamation}
-use Rattle.syn_grammar.specs.Tokens.{Stream, ◌⧺◌, or, at_generics, stands}
+use Rattle.syn_grammar.specs.Tokens.{Stream, ◌⧺◌, or, at_generics, present}
 use Rattle.syn_grammar.specs.Rules.{type, type_path, for_self_type, impl_body}
 use Rattle.syn_grammar.specs.Grammar.{word, print, renew, led, Grammar, rule, empty, when◌then◌else◌, Syntax, Both, Left, Right}
 use Rattle.syn_grammar.specs.Forms.{punctuation}
@@ -12,12 +12,12 @@ use Rattle.syn_grammar.specs.Run.{parse_rule, parse_form}
 use Rattle.syn_grammar.specs.ItemPlan.{parts}
 
 -- generics follow the `for` that is next
-abbrev pub generics_behind : Out → Bool
-generics_behind (Some p) = sees at_generics p.1
-generics_behind None = false
+abbrev pub generics_after : Out → Bool
+generics_after (Some p) = sees at_generics p.1
+generics_after None = false
 
 abbrev pub leads_on : Stream → Bool
-leads_on ts = generics_behind (take_token (word w_for) ts)
+leads_on ts = generics_after (take_token (word w_for) ts)
 
 -- this form reads this value here
 abbrev pub Reads : Grammar → Stream → Syntax → Stream → Type 0
@@ -25,7 +25,7 @@ Reads g m s r = parse_form g m ≡ Some (s, r)
 
 -- The print of a type, before anything, would be parsed as generics if and only if its tokens would be.
 abbrev pub TypeLeads : Type 0
-TypeLeads = (m r q : Stream) (t : Syntax) → parse_rule type m ≡ Some (t, r) → stands at_generics (print t ⧺ q) ≡ sees at_generics m
+TypeLeads = (m r q : Stream) (t : Syntax) → parse_rule type m ≡ Some (t, r) → present at_generics (print t ⧺ q) ≡ sees at_generics m
 
 -- AN IMPL after its generics, by the next tokens: `!` and braces; `!`, a path and `for` with a type; a path, with an optional `for` and type;
 -- any other type. The test of the print (`led`) agrees with the tokens. Hold for every stream.

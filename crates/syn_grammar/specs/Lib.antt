@@ -19,7 +19,7 @@ pub mod Promises
 pub mod Computed
 pub mod Turns
 pub mod Same
-pub mod StandsAlone
+pub mod IsAlone
 pub mod Alone
 pub mod ItemStatements
 pub mod UseGroups
@@ -29,7 +29,7 @@ pub mod MemberPlans
 pub mod StatementPlans
 pub mod SmallPlans
 pub mod AlonePlans
-pub mod ToldByTokens
+pub mod DecidedByTokens
 pub mod Leads
 pub mod EntryPoints
 pub mod Listed

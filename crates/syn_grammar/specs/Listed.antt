@@ -31,9 +31,9 @@ other_parts (Both s t) = t
 other_parts _ = Nothing
 
 -- the rest of a sequence after this many parts
-abbrev pub behind_parts : ℕ → Syntax → Syntax
-behind_parts zero s = s
-behind_parts (suc n) s = behind_parts n (other_parts s)
+abbrev pub after_parts : ℕ → Syntax → Syntax
+after_parts zero s = s
+after_parts (suc n) s = after_parts n (other_parts s)
 
 -- a rule's tree without its Node
 abbrev pub of_rule : Syntax → Syntax
@@ -52,33 +52,33 @@ token_name (Token (ident x) sp) = Some (x, sp)
 token_name _ = None
 
 -- the part of a sequence after this many others, as an identifier
-abbrev pub name_behind : ℕ → Syntax → Option Name
-name_behind n s = token_name (first_part (behind_parts n s))
+abbrev pub name_after : ℕ → Syntax → Option Name
+name_after n s = token_name (first_part (after_parts n s))
 
 -- the part after an item's attributes, without the Node of its rule
-abbrev pub behind_attributes : Syntax → Syntax
-behind_attributes s = of_rule (other_parts s)
+abbrev pub after_attributes : Syntax → Syntax
+after_attributes s = of_rule (other_parts s)
 
 -- THE NAME OF AN ITEM of this kind, from the part after its attributes: the part of its rule that is its name. An impl, a use, a
 -- foreign module and verbatim items have none.
 abbrev pub name_in : Rule → Syntax → Option Name
-name_in structure s = name_behind 2 s
-name_in enumeration s = name_behind 2 s
-name_in union_item s = name_behind 2 s
-name_in const_item s = name_behind 3 s
-name_in static_item s = name_behind 3 s
-name_in extern_crate s = name_behind 3 s
-name_in module_item s = name_behind 3 s
-name_in type_item s = name_behind 3 s
-name_in trait_alias s = name_behind 1 (of_rule (behind_parts 1 s))
-name_in trait_definition s = name_behind 3 (of_rule (behind_parts 2 s))
-name_in function s = name_behind 1 (of_rule (behind_parts 4 (of_rule (first_part (behind_parts 2 s)))))
-name_in macro_as_item s = token_name (of_choice (first_part (behind_parts 2 (of_rule (of_choice s)))))
+name_in structure s = name_after 2 s
+name_in enumeration s = name_after 2 s
+name_in union_item s = name_after 2 s
+name_in const_item s = name_after 3 s
+name_in static_item s = name_after 3 s
+name_in extern_crate s = name_after 3 s
+name_in module_item s = name_after 3 s
+name_in type_item s = name_after 3 s
+name_in trait_alias s = name_after 1 (of_rule (after_parts 1 s))
+name_in trait_definition s = name_after 3 (of_rule (after_parts 2 s))
+name_in function s = name_after 1 (of_rule (after_parts 4 (of_rule (first_part (after_parts 2 s)))))
+name_in macro_as_item s = token_name (of_choice (first_part (after_parts 2 (of_rule (of_choice s)))))
 name_in _ s = None
 
 -- the list entry of an item of this kind
 abbrev pub listed_as : Rule → Syntax → Listed
-listed_as k s = (k, name_in k (behind_attributes s))
+listed_as k s = (k, name_in k (after_attributes s))
 
 -- the kind and the name of an item
 abbrev pub listed_item : Syntax → Listed
@@ -92,7 +92,7 @@ listed_items _ = []
 
 -- those of a file's items, which follow its first line, its frontmatter and its inner attributes
 abbrev pub listed : Syntax → List Listed
-listed s = listed_items (behind_parts 3 (of_rule s))
+listed s = listed_items (after_parts 3 (of_rule s))
 
 -- A FILE HAS THIS LIST: it is derived as a tree whose items have these kinds and names.
 abbrev pub FileLists : Stream → List Listed → Type 0
@@ -155,8 +155,8 @@ name_ahead macro_as_item ts = name_next (past a_bang ts)
 name_ahead _ ts = None
 
 -- The name of an item is at this place. Holds for every stream.
-abbrev pub NamesStandAhead : Type 0
-NamesStandAhead = (k : Rule) (ts : Stream) (s : Syntax) (r : Stream) → IsKind item k → DerivesPrefix table (rule k) (Node s) ts r → name_in k (behind_attributes s) ≡ name_ahead k ts
+abbrev pub NamesAhead : Type 0
+NamesAhead = (k : Rule) (ts : Stream) (s : Syntax) (r : Stream) → IsKind item k → DerivesPrefix table (rule k) (Node s) ts r → name_in k (after_attributes s) ≡ name_ahead k ts
 
 -- A FILE'S LIST IS BUILT ITEM BY ITEM. Hold for every stream.
 
@@ -165,8 +165,8 @@ abbrev pub ListingBegins : Type 0
 ListingBegins = (ts : Stream) (a : Syntax) (m : Stream) → parse_rule inner_attributes ts ≡ Some (a, m) → ListedSoFar ts [] m
 
 -- If the rule of a kind reads an item, the list grows by this kind and the name at its place among the tokens.
-abbrev pub ListingGoesOn : Type 0
-ListingGoesOn = (ts : Stream) (l : List Listed) (m : Stream) (k : Rule) (s : Syntax) (r : Stream) → ListedSoFar ts l m → sees ended m ≡ false → IsKind item k →
+abbrev pub ListingContinues : Type 0
+ListingContinues = (ts : Stream) (l : List Listed) (m : Stream) (k : Rule) (s : Syntax) (r : Stream) → ListedSoFar ts l m → sees ended m ≡ false → IsKind item k →
     parse_rule k m ≡ Some (s, r) → ListedSoFar ts (l ++ (k, name_ahead k m) ∷ []) r
 
 -- If no tokens are left, the list is complete.

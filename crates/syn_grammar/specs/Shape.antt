@@ -13,7 +13,7 @@ pub data Shape : Type 0 where
   -- of forms that read an expression, or a part of one
   operand : Variant → Shape  -- an expression without attributes
   bracketed : Shape  -- the same of parentheses or brackets: their content decides the variant
-  behind_it : Variant → Shape  -- a part after an expression that forms this variant with it: a call's arguments, `?` and the like
+  after_it : Variant → Shape  -- a part after an expression that forms this variant with it: a call's arguments, `?` and the like
   operator : Variant → Shape  -- the same: an operator with its right operand, `as` with its type
   dotted : Shape  -- the same: `.` and a field or a method's call
   fields : Shape  -- the braces of a struct literal, after its path
@@ -107,7 +107,7 @@ variant_back While = refl
 abbrev pub shape_number : Shape → ℕ × ℕ
 shape_number (expr v) = (0, variant_number v)
 shape_number (operand v) = (1, variant_number v)
-shape_number (behind_it v) = (2, variant_number v)
+shape_number (after_it v) = (2, variant_number v)
 shape_number (operator v) = (3, variant_number v)
 shape_number bracketed = (4, 0)
 shape_number dotted = (5, 0)
@@ -129,12 +129,12 @@ shape_number based = (20, 0)
 shape_number single = (21, 0)
 
 abbrev pub shape_at : ℕ × ℕ → Shape
-shape_at p = (cond (p.0 == 0) (expr (at variants p.1)) (cond (p.0 == 1) (operand (at variants p.1)) (cond (p.0 == 2) (behind_it (at variants p.1)) (cond (p.0 == 3) (operator (at variants p.1)) (cond (p.0 == 4) bracketed (cond (p.0 == 5) dotted (cond (p.0 == 6) fields (cond (p.0 == 7) choice (cond (p.0 == 8) chain (cond (p.0 == 9) leading (cond (p.0 == 10) labelled (cond (p.0 == 11) attributed (cond (p.0 == 12) listed (cond (p.0 == 13) lone (cond (p.0 == 14) said (cond (p.0 == 15) said_macro (cond (p.0 == 16) a_local (cond (p.0 == 17) an_item (cond (p.0 == 18) untagged (cond (p.0 == 19) parameters (cond (p.0 == 20) based single)))))))))))))))))))))
+shape_at p = (cond (p.0 == 0) (expr (at variants p.1)) (cond (p.0 == 1) (operand (at variants p.1)) (cond (p.0 == 2) (after_it (at variants p.1)) (cond (p.0 == 3) (operator (at variants p.1)) (cond (p.0 == 4) bracketed (cond (p.0 == 5) dotted (cond (p.0 == 6) fields (cond (p.0 == 7) choice (cond (p.0 == 8) chain (cond (p.0 == 9) leading (cond (p.0 == 10) labelled (cond (p.0 == 11) attributed (cond (p.0 == 12) listed (cond (p.0 == 13) lone (cond (p.0 == 14) said (cond (p.0 == 15) said_macro (cond (p.0 == 16) a_local (cond (p.0 == 17) an_item (cond (p.0 == 18) untagged (cond (p.0 == 19) parameters (cond (p.0 == 20) based single)))))))))))))))))))))
 
 pub shape_back : (j : Shape) → shape_at (shape_number j) ≡ j
 shape_back (expr v) = ap expr (variant_back v)
 shape_back (operand v) = ap operand (variant_back v)
-shape_back (behind_it v) = ap behind_it (variant_back v)
+shape_back (after_it v) = ap after_it (variant_back v)
 shape_back (operator v) = ap operator (variant_back v)
 shape_back bracketed = refl
 shape_back dotted = refl

@@ -11,7 +11,7 @@ use Rattle.syn_grammar.specs.Values.{core, stated, in_list, new}
 use Rattle.syn_grammar.specs.Take.{sees}
 use Rattle.syn_grammar.specs.Run.{wrap, and_then, parse_rule, parse_form}
 use Rattle.syn_grammar.specs.Plan.{Plan, reads, turns, ends, fails, follow, by_test, run_plan}
-use Rattle.syn_grammar.specs.ItemPlan.{parts, item_behind}
+use Rattle.syn_grammar.specs.ItemPlan.{parts, item_after}
 use Rattle.syn_grammar.specs.ItemStatements.{item_statement, item_listed}
 
 -- A single statement that is no item, after its attributes.
@@ -35,12 +35,12 @@ other_listed a s = Node (Right (core (in_list (Both a (Right s)))))
 -- every stream.
 abbrev pub StatementPlan : Type 0
 StatementPlan = (ts : Stream) → parse_rule statement ts ≡
-    follow (λ a m. by_test (sees at_item m) (wrap item_statement (run_plan (item_behind a) kept_item ts m)) (wrap (of_other a) (parse_form other_statement m))) (parse_rule attributes ts)
+    follow (λ a m. by_test (sees at_item m) (wrap item_statement (run_plan (item_after a) kept_item ts m)) (wrap (of_other a) (parse_form other_statement m))) (parse_rule attributes ts)
 
 -- The same for a list of statements that is not at its end and has no `;` next. Holds for every stream.
 abbrev pub StatementsPlan : Type 0
 StatementsPlan = (ts : Stream) → sees ended ts ≡ false → sees at_semicolon ts ≡ false → parse_rule statements ts ≡
-    follow (λ a m. by_test (sees at_item m) (wrap item_listed (and_then (run_plan (item_behind a) kept_item ts m) (parse_rule statements))) (wrap (other_listed a) (parse_rule statement_rest m))) (parse_rule attributes ts)
+    follow (λ a m. by_test (sees at_item m) (wrap item_listed (and_then (run_plan (item_after a) kept_item ts m) (parse_rule statements))) (wrap (other_listed a) (parse_rule statement_rest m))) (parse_rule attributes ts)
 
 -- the value of an item, from the parts of its macro
 abbrev pub crate_item : Syntax → Syntax

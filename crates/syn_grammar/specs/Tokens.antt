@@ -392,5 +392,5 @@ lookahead (punct c j sp m) = punctuation_lookahead c j (lookahead m)
 lookahead (group d o c i m) = group_lookahead d (lookahead i)
 
 -- the look holds of this stream's lookahead
-abbrev pub stands : Look → Stream → Bool
-stands c ts = answers c (lookahead ts)
+abbrev pub present : Look → Stream → Bool
+present c ts = answers c (lookahead ts)

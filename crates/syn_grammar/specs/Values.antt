@@ -2,7 +2,7 @@
 -- An expression is `Shaped (expr variant) (Both attributes fields)`. The left operand of an operator, the function of a call etc. are fields: chains nest to the left.
 use Rattle.std.specs.Prelude.{Bool, true, false}
 use Rattle.syn_grammar.specs.Tokens.{end, Paren, Bracket}
-use Rattle.syn_grammar.specs.Shape.{Variant, Path, Struct, Binary, Assign, Cast, Verbatim, Field, MethodCall, Parens, Tuple, Array, Repeat, Macro, Shape, expr, operand, bracketed, behind_it, operator, dotted, fields, choice, chain, leading, labelled, attributed, listed, lone, said, said_macro, a_local, an_item, untagged, parameters, based, single}
+use Rattle.syn_grammar.specs.Shape.{Variant, Path, Struct, Binary, Assign, Cast, Verbatim, Field, MethodCall, Parens, Tuple, Array, Repeat, Macro, Shape, expr, operand, bracketed, after_it, operator, dotted, fields, choice, chain, leading, labelled, attributed, listed, lone, said, said_macro, a_local, an_item, untagged, parameters, based, single}
 use Rattle.syn_grammar.specs.Rules.{Rule, structure, structure_rest, enumeration, enumeration_rest, union_item, union_item_rest, function, function_rest, const_item, const_item_rest, static_item, static_item_rest, extern_crate, extern_crate_rest, use_item, use_item_rest, module_item, module_item_rest, trait_alias, trait_alias_rest, type_item, type_item_rest, macro_as_item, macro_as_item_rest, trait_definition, trait_definition_rest, impl_definition, impl_definition_rest, foreign_module, foreign_module_rest, kept_item}
 use Rattle.syn_grammar.specs.Grammar.{Syntax, Nothing, Mark, Both, Left, Right, Node, Case, Group, Captured, Unshown, Shaped}
 
@@ -47,7 +47,7 @@ onto a (Node l) = onto a l
 onto a (Left l) = onto a l
 onto a (Right l) = onto a l
 onto a (Both l m) = onto (onto a l) m
-onto a (Shaped (behind_it v) p) = new v (Both a p)
+onto a (Shaped (after_it v) p) = new v (Both a p)
 onto a (Shaped (operator v) p) = new v (Both a p)
 onto a (Shaped dotted p) = new (member_variant p) (Both a p)
 onto a (Shaped fields p) = literal_of a p
@@ -200,11 +200,11 @@ no_members = Node (Left Nothing)
 
 -- a member, the part after it, and the part after the list
 abbrev pub one_member : Shape → Syntax → Syntax → Syntax → Syntax
-one_member j x n behind = Shaped j (Both (Node (Right (Both x (Right n)))) behind)
+one_member j x n following = Shaped j (Both (Node (Right (Both x (Right n)))) following)
 
 -- a member before a comma and further members
 abbrev pub more_members : Shape → Syntax → Syntax → Syntax → Syntax
-more_members j x comma (Node (Shaped k (Both l behind))) = Shaped j (Both (Node (Right (Both x (Left (Both comma l))))) behind)
+more_members j x comma (Node (Shaped k (Both l following))) = Shaped j (Both (Node (Right (Both x (Left (Both comma l))))) following)
 more_members j x comma s = Shaped j (Both x (Both comma s))
 
 -- a member, and the part after it; for the last member also the part after the list
@@ -220,15 +220,15 @@ abbrev pub ellipsis_of : Syntax → Syntax → Syntax → Syntax
 ellipsis_of a p v = Shaped parameters (Both no_members (Left (Both a (Both p v))))
 
 -- after a pattern and its colon
-abbrev pub behind_colon : Syntax → Syntax → Syntax → Syntax → Syntax
-behind_colon a p c (Left v) = ellipsis_of a (Left (Both p c)) v
-behind_colon a p c (Right (Both t e)) = member parameters (Right Nothing) (Node (Both a (Right (Both p (Both c t))))) e
-behind_colon a p c s = Shaped parameters (Both a (Both p (Both c s)))
+abbrev pub after_colon : Syntax → Syntax → Syntax → Syntax → Syntax
+after_colon a p c (Left v) = ellipsis_of a (Left (Both p c)) v
+after_colon a p c (Right (Both t e)) = member parameters (Right Nothing) (Node (Both a (Right (Both p (Both c t))))) e
+after_colon a p c s = Shaped parameters (Both a (Both p (Both c s)))
 
 -- one that is no receiver
 abbrev pub typed : Syntax → Syntax → Syntax
 typed a (Left v) = ellipsis_of a (Right Nothing) v
-typed a (Right (Both p (Both c s))) = behind_colon a p c s
+typed a (Right (Both p (Both c s))) = after_colon a p c s
 typed a s = Shaped parameters (Both a s)
 
 -- one after its attributes

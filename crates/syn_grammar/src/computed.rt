@@ -8,10 +8,10 @@ ghost use Rattle.syn_grammar.specs.ItemPlan.{ItemPlan};
 ghost use Rattle.syn_grammar.specs.MemberPlans.{TraitItemPlan, ImplItemPlan, ForeignItemPlan, PlansMarked, PlansShow};
 ghost use Rattle.syn_grammar.specs.SmallPlans.{DeriveInputPlan, LocalValuePlan};
 ghost use Rattle.syn_grammar.specs.AlonePlans.{UseAlone, TypeAlone, ImplAlone};
-ghost use Rattle.syn_grammar.specs.ToldByTokens.{OneWhereTold, RootMarkTold};
+ghost use Rattle.syn_grammar.specs.DecidedByTokens.{OneWhereKnown, RootMarkKnown};
 ghost use Rattle.syn_grammar.specs.Leads.{TypeLeads, ImplLed};
 ghost use Rattle.syn_grammar.specs.StatementPlans.{StatementPlan, StatementsPlan, CrateMacroPlan};
-ghost use Rattle.syn_grammar.specs.Alone.{ReadAlone, ValuesForgetSpans, ShowIsRead, ShowStandsAlone, ShowStandsBefore, SameShow};
+ghost use Rattle.syn_grammar.specs.Alone.{ReadAlone, ValuesForgetSpans, ShowIsRead, ShowIsAlone, ShowIsBefore, SameShow};
 
 /// The computed reading returns exactly what the grammar derives: the value of the tree and the rest
 /// where a tree is derived, and `None` where none is. Holds of every visible token stream (one without
@@ -71,18 +71,18 @@ pub fn show_is_read()
     ensures as_the_same { ShowIsRead }
 {}
 
-/// A rule of `stands_alone` (it reads the same where the tokens after it are cut off) reads a value
+/// A rule of `is_alone` (it reads the same where the tokens after it are cut off) reads a value
 /// before a rest; it also reads the shown tokens of that value as a whole stream, as the same value
 /// with the same spans. Holds of every token stream.
-pub fn show_stands_alone()
-    ensures as_the_same { ShowStandsAlone }
+pub fn show_is_alone()
+    ensures as_the_same { ShowIsAlone }
 {}
 
-/// A rule reads a value before a mark of `stands_before` (it reads the same there as before the end);
+/// A rule reads a value before a mark of `is_before` (it reads the same there as before the end);
 /// it also reads the shown tokens of that value as a whole stream, as the same value with the same
 /// spans. Holds of every token stream.
-pub fn show_stands_before()
-    ensures as_the_same { ShowStandsBefore }
+pub fn show_is_before()
+    ensures as_the_same { ShowIsBefore }
 {}
 
 /// If a rule of `reads_shown` reads two whole token streams, the two values are equal, spans (in bytes)
@@ -191,14 +191,14 @@ pub fn impl_definition_rest_plan()
 
 /// Whether a type alias has at most one `where` clause is decided by the tokens outside of groups and
 /// lifetimes, where the forms before it read no `where` outside of groups. Holds of every stream.
-pub fn one_where_told()
-    ensures by_tokens { OneWhereTold }
+pub fn one_where_known()
+    ensures by_tokens { OneWhereKnown }
 {}
 
 /// Whether a tree in the braces after `use`, after attributes and a visibility, begins with `::` is
 /// decided by the tokens. Holds of every stream.
-pub fn root_mark_told()
-    ensures by_tokens { RootMarkTold }
+pub fn root_mark_known()
+    ensures by_tokens { RootMarkKnown }
 {}
 
 /// A type, printed before anything, would be read as generics exactly where its tokens would be. Holds

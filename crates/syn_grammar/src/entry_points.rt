@@ -3,7 +3,7 @@
 
 ghost use Rattle.syn_grammar.specs.EntryPoints.{KindsAgree, KindsDerive, SomeKind, KeptAsRead, InputsAreItems, InputsDeriveItems};
 ghost use Rattle.syn_grammar.specs.Joined.{JoinedItems, JoinedIsVisible};
-ghost use Rattle.syn_grammar.specs.Listed.{NamesStandAhead, ListingBegins, ListingGoesOn, ListingEnds, ListingRefused};
+ghost use Rattle.syn_grammar.specs.Listed.{NamesAhead, ListingBegins, ListingContinues, ListingEnds, ListingRefused};
 ghost use Rattle.syn_grammar.specs.Rules.{item, trait_item, impl_item, foreign_item, derive_input};
 
 /// An item of some kind is read, and derived, exactly where the rule of that kind reads and derives it, as the same value and with
@@ -51,15 +51,15 @@ pub fn derive_inputs_are_items()
 {}
 
 /// The name of an item (specs/Listed) follows the first word of its kind outside of groups; of a macro it follows the first `!`.
-pub fn names_stand_ahead()
-    ensures behind_the_word { NamesStandAhead }
+pub fn names_ahead()
+    ensures after_the_word { NamesAhead }
 {}
 
 /// A file is listed item by item: after its inner attributes each item by the rule of its kind and by its name, up to the end;
 /// and where none of these rules reads, no file is derived.
 pub fn files_are_listed()
     ensures begins { ListingBegins }
-    ensures goes_on { ListingGoesOn }
+    ensures proceeds { ListingContinues }
     ensures ends { ListingEnds }
     ensures refused { ListingRefused }
 {}

@@ -7,7 +7,7 @@ use Rattle.syn_grammar.specs.Grammar.{Syntax, Nothing, Both, Left, Right, Node, 
 use Rattle.syn_grammar.specs.Forms.{punctuation}
 use Rattle.syn_grammar.specs.Take.{Out, only, sees, take_mark}
 use Rattle.syn_grammar.specs.Run.{and_then, branch, parse_form, parse_rule, such_as, vanish, wrap}
-use Rattle.syn_grammar.proofs.ToldByTokens.{one_where_seen}
+use Rattle.syn_grammar.proofs.DecidedByTokens.{one_where_seen}
 use Rattle.syn_grammar.proofs.Takes.{TreeAndRest}
 use Rattle.syn_lower.specs.Generics.{no_clause}
 use Rattle.syn_lower.specs.WhereClauses.{clause_form, clause_there}

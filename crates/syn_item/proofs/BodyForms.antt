@@ -138,10 +138,10 @@ outer_shown (a ∷ l) m e h = go (is_outer (syntax_of_Attribute a)) (λ k. outer
     go true more k = ap (before_others a) (more k)
     go false more k = absurd (true≢false (sym k))
 
-pub outer_stand_before : (ts : Stream) (l m : List Attribute) (r : Stream) → all_attributes_syntax l ≡ attributes_syntax l → parse_rule inner_attributes ts ≡ Some (inner_attributes_syntax m, r) →
+pub outer_present_before : (ts : Stream) (l m : List Attribute) (r : Stream) → all_attributes_syntax l ≡ attributes_syntax l → parse_rule inner_attributes ts ≡ Some (inner_attributes_syntax m, r) →
     attributes_before_body (l ++ m) ≡ attributes_syntax l
 unfolding listed_before outer_listed
-outer_stand_before ts l m r o i =
+outer_present_before ts l m r o i =
     let e = outer_of l o in
     let h = inner_read ts m r i in
     ap (λ b. shown_before is_outer (pick b Nothing (all (l ++ m))) (all (l ++ m))) (first_both l m e ∙ first_inner m h)
@@ -158,10 +158,10 @@ inner_front (a ∷ l) m e = go (is_outer (syntax_of_Attribute a)) (inner_front l
     go true more k = more k
     go false more k = absurd (true≢false (sym k))
 
-pub inner_stand_inside : (ts : Stream) (l m : List Attribute) (r : Stream) → all_attributes_syntax l ≡ attributes_syntax l → parse_rule inner_attributes ts ≡ Some (inner_attributes_syntax m, r) →
+pub inner_present_inside : (ts : Stream) (l m : List Attribute) (r : Stream) → all_attributes_syntax l ≡ attributes_syntax l → parse_rule inner_attributes ts ≡ Some (inner_attributes_syntax m, r) →
     parse_rule inner_attributes ts ≡ Some (attributes_in_body (l ++ m), r)
 unfolding listed_inside inner_listed
-inner_stand_inside ts l m r o i =
+inner_present_inside ts l m r o i =
     let h = inner_read ts m r i in
     i ∙ ap (λ s. Some (s, r)) (ap (λ b. shown_before is_inner (pick b Nothing (all m)) (all m)) h ∙ sym (inner_front l m (outer_of l o)))
 
@@ -178,16 +178,16 @@ after_closed d g f (Some p) = go (is_end p.1) refl
 abbrev to_end : Rule → Parser
 to_end k m = whole_only (parse_rule k m)
 
-behind_attributes : (k : Rule) (o : Option Opened) → within Brace o (λ i. and_then (parse_rule inner_attributes i) (parse_rule k)) ≡ within Brace o (λ i. and_then (parse_rule inner_attributes i) (to_end k))
-behind_attributes k None = refl
-behind_attributes k (Some g) = go (parse_rule inner_attributes g.content)
+after_attributes : (k : Rule) (o : Option Opened) → within Brace o (λ i. and_then (parse_rule inner_attributes i) (parse_rule k)) ≡ within Brace o (λ i. and_then (parse_rule inner_attributes i) (to_end k))
+after_attributes k None = refl
+after_attributes k (Some g) = go (parse_rule inner_attributes g.content)
   where
     go : (o : Out) → close Brace g (and_then o (parse_rule k)) ≡ close Brace g (and_then o (to_end k))
     go None = refl
     go (Some p) = after_closed Brace g (Both p.0) (parse_rule k p.1)
 
 pub body_read : (ts : Stream) → parse_rule body ts ≡ wrap Node (within Brace (take_group Brace ts) (λ i. and_then (parse_rule inner_attributes i) (to_end statements)))
-body_read ts = body_is ts ∙ ap (wrap Node) (behind_attributes statements (take_group Brace ts))
+body_read ts = body_is ts ∙ ap (wrap Node) (after_attributes statements (take_group Brace ts))
 
 pub items_read : (ts : Stream) → parse_form (inside Brace (rule inner_attributes & rule items)) ts ≡ within Brace (take_group Brace ts) (λ i. and_then (parse_rule inner_attributes i) (to_end items))
-items_read ts = behind_attributes items (take_group Brace ts)
+items_read ts = after_attributes items (take_group Brace ts)

@@ -11,7 +11,7 @@ use Rattle.syn_grammar.specs.Take.{Out, sees, take_token}
 use Rattle.syn_grammar.specs.Values.{shape, untag}
 use Rattle.syn_grammar.specs.Run.{and_then, branch, parse_form, parse_rule, wrap}
 use Rattle.syn_grammar.specs.Plan.{Plan, reads, by_test, follow, run_plan}
-use Rattle.syn_grammar.specs.ItemPlan.{Place, public, unwritten, plain, absent, abi_and_signature, behind_const, const_impl_plan, const_plan, const_trait_or_alias, function_end, impl_plan, signature_end, trait_plan, visible_impl}
+use Rattle.syn_grammar.specs.ItemPlan.{Place, public, unwritten, plain, absent, abi_and_signature, following_const, const_impl_plan, const_plan, const_trait_or_alias, function_end, impl_plan, signature_end, trait_plan, visible_impl}
 use Rattle.syn_grammar.specs.MemberPlans.{function_after_const}
 use Rattle.syn_grammar.proofs.Each.{unsafe_only_is}
 use Rattle.syn_grammar.proofs.Looks.{sees_or}
@@ -30,8 +30,8 @@ module _ (k : Rule) (ts : Stream) (p : Place) (a v : Syntax) (m : Stream) where
   run = run_plan (const_turn p a v) k ts m
 
   -- after the word that was read
-  behind : (x : Syntax) (r : Stream) → take_token (word w_const) m ≡ Some (x, r) → run ≡ run_plan (behind_const p a v x) k ts r
-  behind x r e = ap (follow (λ c n. run_plan (behind_const p a v c) k ts n)) e
+  following : (x : Syntax) (r : Stream) → take_token (word w_const) m ≡ Some (x, r) → run ≡ run_plan (following_const p a v x) k ts r
+  following x r e = ap (follow (λ c n. run_plan (following_const p a v c) k ts n)) e
 
   module _ {X E : Type 0} (refusal : E → Type 0) (view : X → Syntax) (y : Result (Option X) E) (new : Stream) where
     abbrev Goes : Out → Type 0
@@ -39,33 +39,33 @@ module _ (k : Rule) (ts : Stream) (p : Place) (a v : Syntax) (m : Stream) where
 
     module _ (no_unsafe : sees (at_word w_unsafe) (past m) ≡ false) where
       pub trait_follows : (x : Syntax) (r : Stream) → take_token (word w_const) m ≡ Some (x, r) → sees (at_word w_trait) (past m) ≡ true → Goes (run_plan (const_trait_or_alias a v (Left x)) k ts r) → Goes run
-      unfolding behind_const
+      unfolding following_const
       trait_follows x r e h f =
           let s = sym (past_word w_const m (x, r) e) in
-          subst Goes (sym (behind x r e ∙ happened k ts (went false ∷ went true ∷ []) (behind_const p a v x) r (ap (sees (at_word w_unsafe)) s ∙ no_unsafe, (ap (sees (at_word w_trait)) s ∙ h, tt)))) f
+          subst Goes (sym (following x r e ∙ happened k ts (went false ∷ went true ∷ []) (following_const p a v x) r (ap (sees (at_word w_unsafe)) s ∙ no_unsafe, (ap (sees (at_word w_trait)) s ∙ h, tt)))) f
 
       module _ (no_trait : sees (at_word w_trait) (past m) ≡ false) (at_const : sees (at_word w_const) m ≡ true) where
         abbrev auto_next : Stream → Bool
         auto_next n = and (sees (at_word w_auto) n) (sees (at_word w_trait) (past n))
 
         pub auto_follows : (c : Syntax) (r : Stream) → parse_form (optional_item_word w_const) m ≡ Some (c, r) → auto_next (past m) ≡ true → Goes (run_plan (trait_plan a v c (Right Nothing)) k ts r) → Goes run
-        unfolding behind_const
+        unfolding following_const
         auto_follows c r read h f =
             let (x, q, e) = word_known w_const m c r at_const read in
             let s = sym (past_word w_const m (x, r) e) in
             subst Goes
             (ap (λ z. run_plan (trait_plan a v z (Right Nothing)) k ts r) q
-            ∙ sym (behind x r e ∙ happened k ts (went false ∷ went false ∷ went true ∷ []) (behind_const p a v x) r (ap (sees (at_word w_unsafe)) s ∙ no_unsafe, (ap (sees (at_word w_trait)) s ∙ no_trait, (ap (sees (at_word w_auto and_also ahead Begins_item)) s ∙ auto_seen (past m) ∙ h, tt))))) f
+            ∙ sym (following x r e ∙ happened k ts (went false ∷ went false ∷ went true ∷ []) (following_const p a v x) r (ap (sees (at_word w_unsafe)) s ∙ no_unsafe, (ap (sees (at_word w_trait)) s ∙ no_trait, (ap (sees (at_word w_auto and_also ahead Begins_item)) s ∙ auto_seen (past m) ∙ h, tt))))) f
 
         module _ (no_auto : auto_next (past m) ≡ false) where
           pub impl_follows : (c : Syntax) (r : Stream) → parse_form (optional_item_word w_const) m ≡ Some (c, r) → sees (at_word w_impl) (past m) ≡ true → Goes (run_plan (const_impl_plan p a c (Right Nothing)) k ts r) → Goes run
-          unfolding behind_const
+          unfolding following_const
           impl_follows c r read h f =
               let (x, q, e) = word_known w_const m c r at_const read in
               let s = sym (past_word w_const m (x, r) e) in
               subst Goes
               (ap (λ z. run_plan (const_impl_plan p a z (Right Nothing)) k ts r) q
-              ∙ sym (behind x r e ∙ happened k ts (went false ∷ went false ∷ went false ∷ went true ∷ []) (behind_const p a v x) r
+              ∙ sym (following x r e ∙ happened k ts (went false ∷ went false ∷ went false ∷ went true ∷ []) (following_const p a v x) r
               (ap (sees (at_word w_unsafe)) s ∙ no_unsafe, (ap (sees (at_word w_trait)) s ∙ no_trait, (ap (sees (at_word w_auto and_also ahead Begins_item)) s ∙ auto_seen (past m) ∙ no_auto, (ap (sees (at_word w_impl)) s ∙ h, tt)))))) f
 
           module _ (no_impl : sees (at_word w_impl) (past m) ≡ false) where
@@ -75,32 +75,32 @@ module _ (k : Rule) (ts : Stream) (p : Place) (a v : Syntax) (m : Stream) where
             seen : (n : Stream) → sees (at_word w_async or_else at_extern or_else at_word w_fn) n ≡ function_next n
             seen n = sees_or (at_word w_async) (at_extern or_else at_word w_fn) n ∙ ap (or (sees (at_word w_async) n)) (sees_or at_extern (at_word w_fn) n)
 
-            last_goes : (b : Bool) → function_next (past m) ≡ b → (f : Syntax → Plan) → ((x : Syntax) (r : Stream) → take_token (word w_const) m ≡ Some (x, r) → run_plan (behind_const p a v x) k ts r ≡ run_plan (f x) k ts r) →
+            last_goes : (b : Bool) → function_next (past m) ≡ b → (f : Syntax → Plan) → ((x : Syntax) (r : Stream) → take_token (word w_const) m ≡ Some (x, r) → run_plan (following_const p a v x) k ts r ≡ run_plan (f x) k ts r) →
                 run ≡ follow (λ x r. run_plan (f x) k ts r) (take_token (word w_const) m)
             last_goes b h f each = go (take_token (word w_const) m) refl
               where
-                go : (o : Out) → take_token (word w_const) m ≡ o → follow (λ x r. run_plan (behind_const p a v x) k ts r) o ≡ follow (λ x r. run_plan (f x) k ts r) o
+                go : (o : Out) → take_token (word w_const) m ≡ o → follow (λ x r. run_plan (following_const p a v x) k ts r) o ≡ follow (λ x r. run_plan (f x) k ts r) o
                 go None e = refl
                 go (Some q) e = each q.0 q.1 e
 
             pub function_follows : function_next (past m) ≡ true → Goes (run_plan (function_turn a v) k ts m) → Goes run
-            unfolding behind_const function_after_const abi_and_signature signature_end
+            unfolding following_const function_after_const abi_and_signature signature_end
             function_follows h f = subst Goes (sym (last_goes true h (λ x. function_after_const (function_end a v) (Left x)) each ∙ sym (signature_goes k ts (function_end a v) m at_const))) f
               where
-                each : (x : Syntax) (r : Stream) → take_token (word w_const) m ≡ Some (x, r) → run_plan (behind_const p a v x) k ts r ≡ run_plan (function_after_const (function_end a v) (Left x)) k ts r
+                each : (x : Syntax) (r : Stream) → take_token (word w_const) m ≡ Some (x, r) → run_plan (following_const p a v x) k ts r ≡ run_plan (function_after_const (function_end a v) (Left x)) k ts r
                 each x r e =
                     let s = sym (past_word w_const m (x, r) e) in
-                    happened k ts (went false ∷ went false ∷ went false ∷ went false ∷ went true ∷ []) (behind_const p a v x) r
+                    happened k ts (went false ∷ went false ∷ went false ∷ went false ∷ went true ∷ []) (following_const p a v x) r
                     (ap (sees (at_word w_unsafe)) s ∙ no_unsafe, (ap (sees (at_word w_trait)) s ∙ no_trait, (ap (sees (at_word w_auto and_also ahead Begins_item)) s ∙ auto_seen (past m) ∙ no_auto, (ap (sees (at_word w_impl)) s ∙ no_impl, (ap (sees (at_word w_async or_else at_extern or_else at_word w_fn)) s ∙ seen (past m) ∙ h, tt)))))
 
             pub const_follows : function_next (past m) ≡ false → Goes (run_plan (const_or_kept_turn a v) k ts m) → Goes run
-            unfolding behind_const
+            unfolding following_const
             const_follows h f = subst Goes (sym (last_goes false h (const_plan a v) each)) f
               where
-                each : (x : Syntax) (r : Stream) → take_token (word w_const) m ≡ Some (x, r) → run_plan (behind_const p a v x) k ts r ≡ run_plan (const_plan a v x) k ts r
+                each : (x : Syntax) (r : Stream) → take_token (word w_const) m ≡ Some (x, r) → run_plan (following_const p a v x) k ts r ≡ run_plan (const_plan a v x) k ts r
                 each x r e =
                     let s = sym (past_word w_const m (x, r) e) in
-                    happened k ts (went false ∷ went false ∷ went false ∷ went false ∷ went false ∷ []) (behind_const p a v x) r
+                    happened k ts (went false ∷ went false ∷ went false ∷ went false ∷ went false ∷ []) (following_const p a v x) r
                     (ap (sees (at_word w_unsafe)) s ∙ no_unsafe, (ap (sees (at_word w_trait)) s ∙ no_trait, (ap (sees (at_word w_auto and_also ahead Begins_item)) s ∙ auto_seen (past m) ∙ no_auto, (ap (sees (at_word w_impl)) s ∙ no_impl, (ap (sees (at_word w_async or_else at_extern or_else at_word w_fn)) s ∙ seen (past m) ∙ h, tt)))))
 
 -- AN IMPL after `const`, by its place
@@ -141,9 +141,9 @@ module _ (k : Rule) (ts : Stream) (p : Place) (a v : Syntax) (m : Stream) (next 
       by_test b (run_plan (trait_plan a v (Left x) (Left u)) k ts n)
       (by_test c (run_plan (const_impl_plan p a (Left x) (Left u)) k ts n) (run_plan (abi_and_signature a v (Left x) absent (Node (Left (untag u)))) k ts n))
 
-  at_kinds : (x : Syntax) (r : Stream) → take_token (word w_const) m ≡ Some (x, r) → run_plan (behind_const p a v x) k ts r ≡ follow (λ u n. kinds x u n (trait_at n) (sees (at_word w_impl) n)) (take_token (word w_unsafe) r)
-  unfolding behind_const
-  at_kinds x r e = happened k ts (went true ∷ []) (behind_const p a v x) r (ap (sees (at_word w_unsafe)) (sym (past_word w_const m (x, r) e)) ∙ unsafe_past, tt)
+  at_kinds : (x : Syntax) (r : Stream) → take_token (word w_const) m ≡ Some (x, r) → run_plan (following_const p a v x) k ts r ≡ follow (λ u n. kinds x u n (trait_at n) (sees (at_word w_impl) n)) (take_token (word w_unsafe) r)
+  unfolding following_const
+  at_kinds x r e = happened k ts (went true ∷ []) (following_const p a v x) r (ap (sees (at_word w_unsafe)) (sym (past_word w_const m (x, r) e)) ∙ unsafe_past, tt)
 
   -- past both words
   past_both : (x : Syntax) (r : Stream) → take_token (word w_const) m ≡ Some (x, r) → (u : Syntax) (n : Stream) → take_token (word w_unsafe) r ≡ Some (u, n) → past (past m) ≡ n
@@ -158,7 +158,7 @@ module _ (k : Rule) (ts : Stream) (p : Place) (a v : Syntax) (m : Stream) (next 
           (x : Syntax) → c ≡ Left x → take_token (word w_const) m ≡ Some (x, r) → (z : Syntax) → u ≡ Left z → take_token (word w_unsafe) r ≡ Some (z, n) → both_run ≡ kinds x z n b d
       known_kinds b d h i x q e z w f =
           let s = sym (past_both x r e z n f) in
-          ap (follow (λ c n. run_plan (behind_const p a v c) k ts n)) e ∙ at_kinds x r e
+          ap (follow (λ c n. run_plan (following_const p a v c) k ts n)) e ∙ at_kinds x r e
           ∙ ap (follow (λ u n. kinds x u n (trait_at n) (sees (at_word w_impl) n))) f
           ∙ ap₂ (kinds x z n) (ap trait_at s ∙ h) (ap (sees (at_word w_impl)) s ∙ i)
 
@@ -197,7 +197,7 @@ module _ (k : Rule) (ts : Stream) (p : Place) (a v : Syntax) (m : Stream) (next 
             let s = sym (past_both x r e q.0 q.1 g) in
             ap₂ (kinds x q.0 q.1) (ap trait_at s ∙ sees_or (at_word w_trait) (at_word w_auto) (past (past m)) ∙ h) (ap (sees (at_word w_impl)) s ∙ i)
 
-        each : (x : Syntax) (r : Stream) → take_token (word w_const) m ≡ Some (x, r) → run_plan (behind_const p a v x) k ts r ≡ run_plan (function_after_const (function_end a v) (Left x)) k ts r
+        each : (x : Syntax) (r : Stream) → take_token (word w_const) m ≡ Some (x, r) → run_plan (following_const p a v x) k ts r ≡ run_plan (function_after_const (function_end a v) (Left x)) k ts r
         each x r e =
             let s = ap (sees (at_word w_unsafe)) (sym (past_word w_const m (x, r) e)) ∙ unsafe_past in
             at_kinds x r e
@@ -206,6 +206,6 @@ module _ (k : Rule) (ts : Stream) (p : Place) (a v : Syntax) (m : Stream) (next 
             ∙ ap (follow (λ u z. after x absent u z)) (unsafe_only_is r)
             ∙ ap (λ b. follow (λ u z. after x absent u z) (wrap Node (branch b (wrap (shape untagged) (take_token (word w_unsafe) r)) (Some (Nothing, r))))) s)
 
-        go : (o : Out) → take_token (word w_const) m ≡ o → follow (λ x r. run_plan (behind_const p a v x) k ts r) o ≡ follow (λ x r. run_plan (function_after_const (function_end a v) (Left x)) k ts r) o
+        go : (o : Out) → take_token (word w_const) m ≡ o → follow (λ x r. run_plan (following_const p a v x) k ts r) o ≡ follow (λ x r. run_plan (function_after_const (function_end a v) (Left x)) k ts r) o
         go None e = refl
         go (Some q) e = each q.0 q.1 e

@@ -78,21 +78,21 @@ module _ (m : Stream) where
       negative_path_refused e f = after_bang f ∙ ap (negative f) e
 
       module _ (t : Syntax) (q : Stream) (path : parse_rule type_path r ≡ Some (t, q)) where
-        abbrev behind : (Stream → Out) → Out → Out
-        behind f o = wrap Left (wrap (Both x) (wrap Right (wrap (Both t) (and_then o f))))
+        abbrev following : (Stream → Out) → Out → Out
+        following f o = wrap Left (wrap (Both x) (wrap Right (wrap (Both t) (and_then o f))))
 
-        behind_path : (f : Stream → Out) → wrap Left (bang_then f m) ≡ behind f (parse_rule for_self_type q)
-        behind_path f = after_bang f ∙ ap (negative f) path
+        after_path : (f : Stream → Out) → wrap Left (bang_then f m) ≡ following f (parse_rule for_self_type q)
+        after_path f = after_bang f ∙ ap (negative f) path
 
         pub negative_for_refused : take_token (word w_for) q ≡ None → (f : Stream → Out) → wrap Left (bang_then f m) ≡ None
-        negative_for_refused e f = behind_path f ∙ ap (behind f) (no_for q e)
+        negative_for_refused e f = after_path f ∙ ap (following f) (no_for q e)
 
         pub negative_type_refused : (s : Syntax) (q2 : Stream) → take_token (word w_for) q ≡ Some (s, q2) → parse_rule type q2 ≡ None → (f : Stream → Out) → wrap Left (bang_then f m) ≡ None
-        negative_type_refused s q2 e i f = behind_path f ∙ ap (behind f) (no_type q s q2 e i)
+        negative_type_refused s q2 e i f = after_path f ∙ ap (following f) (no_type q s q2 e i)
 
         pub negative_read : (s y : Syntax) (q2 q3 : Stream) → take_token (word w_for) q ≡ Some (s, q2) → parse_rule type q2 ≡ Some (y, q3) → (f : Stream → Out) →
             wrap Left (bang_then f m) ≡ wrap (λ rest. Left (Both x (Right (Both (without_self_type t) (Both (for_type s y) rest))))) (f q3)
-        negative_read s y q2 q3 e i f = behind_path f ∙ ap (behind f) (for_read q s q2 e y q3 i) ∙ go (f q3)
+        negative_read s y q2 q3 e i f = after_path f ∙ ap (following f) (for_read q s q2 e y q3 i) ∙ go (f q3)
           where
             go : (o : Out) → wrap Left (wrap (Both x) (wrap Right (wrap (Both t) (wrap (Both (for_type s y)) o)))) ≡ wrap (λ rest. Left (Both x (Right (Both (without_self_type t) (Both (for_type s y) rest))))) o
             go None = refl

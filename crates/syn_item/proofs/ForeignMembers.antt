@@ -20,7 +20,7 @@ use Rattle.syn_grammar.proofs.Looks.{sees_or}
 use Rattle.syn_grammar.proofs.PlanSteps.{Event, happened, left_over, seen_along, seen_apart, went}
 use Rattle.syn_parse.specs.Peeks.{past}
 use Rattle.syn_recognize.proofs.MacroLooks.{before_colons_seen}
-use Rattle.syn_recognize.proofs.PathLooks.{word_tells}
+use Rattle.syn_recognize.proofs.PathLooks.{word_settles}
 use Rattle.syn_item.specs.Macros.{among_members}
 use Rattle.syn_item.specs.NextWords.{foreign_function_next, foreign_word, static_next}
 use Rattle.syn_item.specs.Planned.{Follows}
@@ -43,7 +43,7 @@ static n = sees (at_word w_static) n
 -- before `static`, `safe` begins no path
 no_macro : (n : Stream) → safe n ≡ true → static (past n) ≡ true → sees (ahead Before_macro) n ≡ false
 no_macro n h i =
-    (word_tells n (seen_along (at_word w_safe) at_path_word n refl h)).0
+    (word_settles n (seen_along (at_word w_safe) at_path_word n refl h)).0
     ∙ ap₂ (λ a b. or a (and b (sees (ahead Before_macro) (past n)))) (seen_apart (at_word w_static) at_bang (past n) refl i) (seen_apart (at_word w_static) at_colons (past n) refl i)
 
 no_colons : (n : Stream) → safe n ≡ true → static (past n) ≡ true → sees (ahead Before_colons) n ≡ false
@@ -55,10 +55,10 @@ by_safety n b s = wrap Node (branch b (wrap (shape untagged) (branch s (take_tok
 safety_is : (n : Stream) (s u : Bool) → safe n ≡ s → unsafe n ≡ u → parse_rule safe_or_unsafe n ≡ by_safety n (or s u) s
 safety_is n s u h i = safe_or_unsafe_is n ∙ ap₂ (by_safety n) (sees_or (at_word w_safe) (at_word w_unsafe) n ∙ ap₂ or h i) h
 
-abbrev Behind : Out → Stream → Type 0
-Behind o m = (p : Syntax × Stream) → o ≡ Some p → m ≡ p.1
+abbrev Following : Out → Stream → Type 0
+Following o m = (p : Syntax × Stream) → o ≡ Some p → m ≡ p.1
 
-past_safety : (n : Stream) (s u : Bool) → or s u ≡ true → safe n ≡ s → unsafe n ≡ u → Behind (parse_rule safe_or_unsafe n) (past n)
+past_safety : (n : Stream) (s u : Bool) → or s u ≡ true → safe n ≡ s → unsafe n ≡ u → Following (parse_rule safe_or_unsafe n) (past n)
 past_safety n false false t h i p e = absurd (true≢false (sym t))
 past_safety n true u t h i p e = go (take_token (word w_safe) n) refl (sym (safety_is n true u h i) ∙ e)
   where
@@ -95,7 +95,7 @@ module _ (k : Rule) (ts : Stream) (a v : Syntax) where
   abbrev marked_by : Syntax → Stream → Bool → Out
   marked_by f r b = by_test b (run_plan (foreign_static_plan a v f) k ts r) (signed f r)
 
-  safety_goes : (n : Stream) (o : Out) (b : Bool) → Behind o (past n) → static (past n) ≡ b → follow (λ f r. marked_by f r (static r)) o ≡ follow (λ f r. marked_by f r b) o
+  safety_goes : (n : Stream) (o : Out) (b : Bool) → Following o (past n) → static (past n) ≡ b → follow (λ f r. marked_by f r (static r)) o ≡ follow (λ f r. marked_by f r b) o
   safety_goes n None b h i = refl
   safety_goes n (Some p) b h i = ap (marked_by p.0 p.1) (ap static (sym (h p refl)) ∙ i)
 
@@ -170,9 +170,9 @@ module _ (k : Rule) (ts : Stream) (a v : Syntax) where
           let c = no_const n s u t x z in
           to_safety b n s u t x z y q ∙ safety_run n ∙ safety_goes n (parse_rule safe_or_unsafe n) false (past_safety n s u t x z) i ∙ signature_at n c.0 c.1
 
-      told : (b : Bool) → or b (no (or (sees (ahead Before_macro) n) (sees (ahead Before_colons) n))) ≡ true → b ≡ false → (sees (ahead Before_macro) n ≡ false) × (sees (ahead Before_colons) n ≡ false)
-      told true i j = absurd (true≢false j)
-      told false i j = or_off (sees (ahead Before_macro) n) (sees (ahead Before_colons) n) (off (or (sees (ahead Before_macro) n) (sees (ahead Before_colons) n)) i)
+      reported : (b : Bool) → or b (no (or (sees (ahead Before_macro) n) (sees (ahead Before_colons) n))) ≡ true → b ≡ false → (sees (ahead Before_macro) n ≡ false) × (sees (ahead Before_colons) n ≡ false)
+      reported true i j = absurd (true≢false j)
+      reported false i j = or_off (sees (ahead Before_macro) n) (sees (ahead Before_colons) n) (off (or (sees (ahead Before_macro) n) (sees (ahead Before_colons) n)) i)
         where
           off : (c : Bool) → no c ≡ true → c ≡ false
           off true e = absurd (true≢false (sym e))
@@ -190,7 +190,7 @@ module _ (k : Rule) (ts : Stream) (a v : Syntax) where
       go : (s : Bool) → safe n ≡ s → (u : Bool) → unsafe n ≡ u → pick (or s u) (static (past n)) (static n) ≡ false →
           pick s (or b (no (or (sees (ahead Before_macro) n) (sees (ahead Before_colons) n)))) (or u (or (sees (at_word w_const) n) (or (sees (at_word w_async) n) (or (sees at_extern n) (sees (at_word w_fn) n))))) ≡ true →
           run_plan (member_plan b) k ts n ≡ run_plan (foreign_function_or_kept a v) k ts n
-      go true x u z i j = marked true u refl x z i (λ e r. told b j e)
+      go true x u z i j = marked true u refl x z i (λ e r. reported b j e)
       go false x true z i j = marked false true refl x z i (λ e r. absurd (true≢false (sym r)))
       go false x false z i j = bare b x z i (seen j)
 
@@ -256,28 +256,28 @@ module _ (k : Rule) (ts : Stream) (a : Syntax) (m : Stream) where
   visibility_refused e = goes (or (sees (at_word w_pub) m) (sees at_empty_group m)) refl ∙ ap (follow (λ v n. at k ts a v (or (sees (at_word w_pub) m) (sees at_empty_group m)) n)) e
 
   module _ (b : Bool) (marked : b ≡ or (sees (at_word w_pub) m) (sees at_empty_group m)) (v : Syntax) (n : Stream) (vis : parse_rule visibility m ≡ Some (v, n)) where
-    behind : run ≡ at k ts a v b n
-    behind = goes b (sym marked) ∙ ap (follow (λ v n. at k ts a v b n)) vis
+    following : run ≡ at k ts a v b n
+    following = goes b (sym marked) ∙ ap (follow (λ v n. at k ts a v b n)) vis
 
     module _ {X E : Type 0} (refusal : E → Type 0) (view : X → Syntax) (x : Result (Option X) E) (new : Stream) where
       abbrev Goes : Out → Type 0
       Goes o = Follows refusal view k ts o x new
 
       pub type_follows : sees (at_word w_type) n ≡ true → Goes (run_plan (foreign_type_or_kept a v) k ts n) → Goes run
-      type_follows h = subst Goes (sym (behind ∙ type_at k ts a v b n h))
+      type_follows h = subst Goes (sym (following ∙ type_at k ts a v b n h))
 
       pub static_follows : sees (at_word w_type) n ≡ false → static_next n ≡ true → Goes (run_plan (foreign_static_or_kept a v) k ts n) → Goes run
-      static_follows y h = subst Goes (sym (behind ∙ static_at k ts a v b n y h))
+      static_follows y h = subst Goes (sym (following ∙ static_at k ts a v b n y h))
 
       pub function_follows : sees (at_word w_type) n ≡ false → static_next n ≡ false → foreign_function_next b n ≡ true → Goes (run_plan (foreign_function_or_kept a v) k ts n) → Goes run
-      function_follows y s h = subst Goes (sym (behind ∙ function_at k ts a v b n y s h))
+      function_follows y s h = subst Goes (sym (following ∙ function_at k ts a v b n y s h))
 
     module _ (no_type : sees (at_word w_type) n ≡ false) (no_static : static_next n ≡ false) (no_function : foreign_function_next b n ≡ false) where
       pub marked_refused : b ≡ true → run ≡ None
-      marked_refused e = behind ∙ ap (λ c. at k ts a v c n) e ∙ nothing_at k ts a v n no_type no_static (sym (ap (λ c. foreign_function_next c n) e) ∙ no_function)
+      marked_refused e = following ∙ ap (λ c. at k ts a v c n) e ∙ nothing_at k ts a v n no_type no_static (sym (ap (λ c. foreign_function_next c n) e) ∙ no_function)
 
       bare : b ≡ false → run ≡ run_plan (foreign_macro_plan a) k ts n
-      bare e = behind ∙ ap (λ c. at k ts a v c n) e ∙ macro_at k ts a v n no_type no_static (sym (ap (λ c. foreign_function_next c n) e) ∙ no_function)
+      bare e = following ∙ ap (λ c. at k ts a v c n) e ∙ macro_at k ts a v n no_type no_static (sym (ap (λ c. foreign_function_next c n) e) ∙ no_function)
 
       pub self_refused : b ≡ false → sees (at_word w_Self_type) n ≡ true → run ≡ None
       self_refused e h = bare e ∙ self_at k ts a v n h

@@ -1,13 +1,13 @@
 -- Impls, printed: what follows the generics, and where empty generics are printed.
 use Rattle.std.proofs.Common.{◌≡◌, Bool, true, false, List, [], ◌∷◌, Option, Some, None, refl, sym, subst, ap, ap₂, ◌∙◌, true≢false}
-use Rattle.syn_grammar.specs.Tokens.{Brace, Delimiter, Span, ◌⧺◌, end, or, pick, at_generics, stands}
+use Rattle.syn_grammar.specs.Tokens.{Brace, Delimiter, Span, ◌⧺◌, end, or, pick, at_generics, present}
 use Rattle.syn_grammar.specs.Shape.{untagged}
 use Rattle.syn_grammar.specs.Grammar.{Syntax, Nothing, Both, Left, Right, Node, Vanishing, Group, Impl, Shaped, Order, bare, led, led_part, no_generics, print, renew, show}
 use Rattle.syn_grammar.specs.Promises.{itself}
 use Rattle.syn_grammar.specs.Take.{sees}
 use Rattle.syn_grammar.specs.Run.{last, more, span_of}
 use Rattle.syn_grammar.proofs.Streams.{append_append}
-use Rattle.syn_grammar.proofs.Takes.{sees_stands}
+use Rattle.syn_grammar.proofs.Takes.{sees_present}
 use Rattle.syn_tokens.specs.InOrder.{pair_of}
 use Rattle.syn_tokens.specs.Kinds.{Comma, For, Gt, Lt, Not, comma_syntax, for_syntax, gt_syntax, lt_syntax, not_syntax}
 use Rattle.syn_tokens.specs.Leaves.{maybe}
@@ -72,20 +72,20 @@ or_false false = refl
 -- where the type after `for` would be read as generics
 abbrev pub led_for : Option (Syntax × For) → Syntax → Bool
 led_for None ty = false
-led_for (Some p) ty = stands at_generics (print ty)
+led_for (Some p) ty = present at_generics (print ty)
 
 none_inherent : (ty rest : Syntax) → led_part (renew rest) ≡ false → led_part (renew (inherent ty rest)) ≡ false
 none_inherent (Node (Right (Right (Right (Right (Left bang)))))) rest h = ap₂ or (none_within bang) h
 none_inherent (Node (Right (Right (Right (Right (Right (Right (Node (Right path))))))))) rest h = ap₂ or (none_within path) h
 none_inherent ty rest h = ap₂ or (none_within ty) h
 
-one_for : (sign : For) (ty : Syntax) → led_part (renew (for_type (for_syntax sign) ty)) ≡ stands at_generics (print ty)
+one_for : (sign : For) (ty : Syntax) → led_part (renew (for_type (for_syntax sign) ty)) ≡ present at_generics (print ty)
 one_for sign ty =
-    ap₂ (λ x y. or (stands at_generics x) y) (print_without ty) (none_within ty)
-    ∙ or_false (stands at_generics (print ty))
+    ap₂ (λ x y. or (present at_generics x) y) (print_without ty) (none_within ty)
+    ∙ or_false (present at_generics (print ty))
 
 among_for : (path : Syntax) (sign : For) (ty rest : Syntax) → led_part (renew rest) ≡ false →
-    or (led_part (renew (without_self_type path))) (or (led_part (renew (for_type (for_syntax sign) ty))) (led_part (renew rest))) ≡ stands at_generics (print ty)
+    or (led_part (renew (without_self_type path))) (or (led_part (renew (for_type (for_syntax sign) ty))) (led_part (renew rest))) ≡ present at_generics (print ty)
 among_for path sign ty rest h =
     ap₂ (λ x y. or x (or (led_part (renew (for_type (for_syntax sign) ty))) y)) (none_within path) h
     ∙ or_false (led_part (renew (for_type (for_syntax sign) ty)))
@@ -104,9 +104,9 @@ ending clause d x y members = Node (Both (without_self_type clause) (Group d x y
 
 led_by : (q : Option Not) (o : Option (Syntax × For)) (ty clause : Syntax) (d : Delimiter) (x y : Span) (members : Syntax) →
     led (renew (implemented (maybe not_syntax q) (of_trait o) ty (Node (Both (without_self_type clause) (Group d x y members)))))
-    ≡ or (stands at_generics (print (implemented (maybe not_syntax q) (of_trait o) ty (Node (Both (without_self_type clause) (Group d x y members)))))) (led_for o ty)
+    ≡ or (present at_generics (print (implemented (maybe not_syntax q) (of_trait o) ty (Node (Both (without_self_type clause) (Group d x y members)))))) (led_for o ty)
 led_by q o ty clause d x y members =
-    ap (or (stands at_generics (print (implemented (maybe not_syntax q) (of_trait o) ty (ending clause d x y members)))))
+    ap (or (present at_generics (print (implemented (maybe not_syntax q) (of_trait o) ty (ending clause d x y members)))))
     (led_within q o ty (ending clause d x y members) (ap (λ b. or b false) (none_within clause)))
 
 -- of a value
@@ -118,7 +118,7 @@ module _ (i : ItemImpl-in.Inside) (v : Syntax) (view : view_ItemImpl i ≡ v) wh
   led_is =
       subst (λ (z : Syntax). led (renew (after_generics z)) ≡ or (sees at_generics (print (after_generics z))) (led_for i.trait_ ty)) view
       (led_by i.modifiers.polarity i.trait_ ty (clause_of i.generics) Brace (at i.brace_token.opening) (at i.brace_token.closing) (Both (attributes_in_body i.attrs.items) (members_of syntax_of_ImplItem i.items.items))
-      ∙ ap (λ b. or b (led_for i.trait_ ty)) (sym (sees_stands at_generics (print (after_generics (view_ItemImpl i))))))
+      ∙ ap (λ b. or b (led_for i.trait_ ty)) (sym (sees_present at_generics (print (after_generics (view_ItemImpl i))))))
 
   pub led_first : sees at_generics (print (after_generics v)) ≡ true → true ≡ led (renew (after_generics v))
   led_first h = sym (led_is ∙ ap (λ b. or b (led_for i.trait_ ty)) h)
@@ -128,7 +128,7 @@ module _ (i : ItemImpl-in.Inside) (v : Syntax) (view : view_ItemImpl i ≡ v) wh
     led_without h = sym (led_is ∙ ap₂ or not_first (ap (λ o. led_for o ty) h))
 
     pub led_after_for : (p : Syntax × For) → i.trait_ ≡ Some p → sees at_generics (print ty) ≡ led (renew (after_generics v))
-    led_after_for p h = sees_stands at_generics (print ty) ∙ sym (led_is ∙ ap₂ or not_first (ap (λ o. led_for o ty) h))
+    led_after_for p h = sees_present at_generics (print ty) ∙ sym (led_is ∙ ap₂ or not_first (ap (λ o. led_for o ty) h))
 
 -- GENERICS AND WHAT FOLLOWS THEM
 

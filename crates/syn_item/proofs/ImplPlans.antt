@@ -83,16 +83,16 @@ module _ (k : Rule) (ts : Stream) (a v d : Syntax) (m : Stream) (no_type : sees 
     signature_refused e = signature_goes ∙ ap (follow (λ s r. run_plan (impl_function_end a v d s) k ts r)) e
 
     module _ (s : Syntax) (r : Stream) (read : parse_rule signature m ≡ Some (s, r)) where
-      behind : run ≡ run_plan (impl_function_end a v d s) k ts r
-      behind = signature_goes ∙ ap (follow (λ s r. run_plan (impl_function_end a v d s) k ts r)) read
+      following : run ≡ run_plan (impl_function_end a v d s) k ts r
+      following = signature_goes ∙ ap (follow (λ s r. run_plan (impl_function_end a v d s) k ts r)) read
 
       pub function_kept : sees at_semicolon r ≡ true → OnlyKept k ts run
       unfolding impl_function_end kept_end
-      function_kept h = subst (OnlyKept k ts) (sym behind) (is_kept k ts (went true ∷ marked ∷ []) (impl_function_end a v d s) r (h, tt) (λ z. refl))
+      function_kept h = subst (OnlyKept k ts) (sym following) (is_kept k ts (went true ∷ marked ∷ []) (impl_function_end a v d s) r (h, tt) (λ z. refl))
 
       body_goes : sees at_semicolon r ≡ false → run ≡ wrap (λ t. Node (Case impl_function t)) (wrap (impl_function_of a v d s) (parse_rule body r))
       unfolding impl_function_end
-      body_goes h = behind ∙ happened k ts (went false ∷ []) (impl_function_end a v d s) r (h, tt) ∙ go (parse_rule body r)
+      body_goes h = following ∙ happened k ts (went false ∷ []) (impl_function_end a v d s) r (h, tt) ∙ go (parse_rule body r)
         where
           go : (o : Out) → follow (λ b q. Some (Node (Case impl_function (impl_function_of a v d s b)), q)) o ≡ wrap (λ t. Node (Case impl_function t)) (wrap (impl_function_of a v d s) o)
           go None = refl
@@ -115,10 +115,10 @@ module _ (k : Rule) (ts : Stream) (a : Syntax) (m : Stream) where
   abbrev whole : Out
   whole = run_plan (impl_item_plan_after a) k ts m
 
-  abbrev goes_on : Syntax → Stream → Out
-  goes_on v n = follow (λ d r. run_plan (impl_member_plan a v d) k ts r) (parse_form (optional w_default) n)
+  abbrev proceeds : Syntax → Stream → Out
+  proceeds v n = follow (λ d r. run_plan (impl_member_plan a v d) k ts r) (parse_form (optional w_default) n)
 
-  member_goes : impl_macro_next m ≡ false → whole ≡ follow goes_on (parse_rule visibility m)
+  member_goes : impl_macro_next m ≡ false → whole ≡ follow proceeds (parse_rule visibility m)
   unfolding impl_item_plan_after impl_item_plan impl_member_plan
   member_goes h = go (or (sees (at_word w_pub) m) (sees at_empty_group m)) refl (sees (at_word w_default) m) refl h
     where
@@ -139,7 +139,7 @@ module _ (k : Rule) (ts : Stream) (a : Syntax) (m : Stream) where
       after_default None = refl
       after_default (Some p) = refl
 
-      at_default : (e : Bool) → sees (at_word w_default) m ≡ e → sees at_visibility m ≡ false → pick e (sees (ahead Before_macro) m) (no_member_word m) ≡ false → run_plan (impl_item_plan_after a) k ts m ≡ goes_on inherited m
+      at_default : (e : Bool) → sees (at_word w_default) m ≡ e → sees at_visibility m ≡ false → pick e (sees (ahead Before_macro) m) (no_member_word m) ≡ false → run_plan (impl_item_plan_after a) k ts m ≡ proceeds inherited m
       at_default true e v q =
           happened k ts (went false ∷ went true ∷ went false ∷ []) (impl_item_plan_after a) m (v, (e, (q, tt)))
           ∙ after_default (take_token (word w_default) m)
@@ -149,21 +149,21 @@ module _ (k : Rule) (ts : Stream) (a : Syntax) (m : Stream) where
           ∙ ap (λ b. follow (λ d r. run_plan (impl_member_plan a inherited d) k ts r) (branch b (take_token (word w_default) m) (Some (Nothing, m)))) (sym e)
 
       go : (w : Bool) → or (sees (at_word w_pub) m) (sees at_empty_group m) ≡ w → (e : Bool) → sees (at_word w_default) m ≡ e → pick w false (pick e (sees (ahead Before_macro) m) (no_member_word m)) ≡ false →
-          run_plan (impl_item_plan_after a) k ts m ≡ follow goes_on (parse_rule visibility m)
+          run_plan (impl_item_plan_after a) k ts m ≡ follow proceeds (parse_rule visibility m)
       go true w e i q = happened k ts (went true ∷ []) (impl_item_plan_after a) m (sees_or (at_word w_pub) at_empty_group m ∙ w, tt)
-      go false w e i q = at_default e i (sees_or (at_word w_pub) at_empty_group m ∙ w) q ∙ sym (ap (follow goes_on) (none_written m w))
+      go false w e i q = at_default e i (sees_or (at_word w_pub) at_empty_group m ∙ w) q ∙ sym (ap (follow proceeds) (none_written m w))
 
   pub visibility_refused : impl_macro_next m ≡ false → parse_rule visibility m ≡ None → whole ≡ None
-  visibility_refused h e = member_goes h ∙ ap (follow goes_on) e
+  visibility_refused h e = member_goes h ∙ ap (follow proceeds) e
 
   pub default_refused : impl_macro_next m ≡ false → (v : Syntax) (n : Stream) → parse_rule visibility m ≡ Some (v, n) → parse_form (optional w_default) n ≡ None → whole ≡ None
-  default_refused h v n e f = member_goes h ∙ ap (follow goes_on) e ∙ ap (follow (λ d r. run_plan (impl_member_plan a v d) k ts r)) f
+  default_refused h v n e f = member_goes h ∙ ap (follow proceeds) e ∙ ap (follow (λ d r. run_plan (impl_member_plan a v d) k ts r)) f
 
   pub member_follows : {X E : Type 0} (refusal : E → Type 0) (view : X → Syntax) (x : Result (Option X) E) (new : Stream) → impl_macro_next m ≡ false →
       (v d : Syntax) (n r : Stream) → parse_rule visibility m ≡ Some (v, n) → parse_form (optional w_default) n ≡ Some (d, r) →
       Follows refusal view k ts (run_plan (impl_member_plan a v d) k ts r) x new → Follows refusal view k ts whole x new
   member_follows refusal view x new h v d n r e f g =
-      subst (λ (o : Out). Follows refusal view k ts o x new) (sym (member_goes h ∙ ap (follow goes_on) e ∙ ap (follow (λ d r. run_plan (impl_member_plan a v d) k ts r)) f)) g
+      subst (λ (o : Out). Follows refusal view k ts o x new) (sym (member_goes h ∙ ap (follow proceeds) e ∙ ap (follow (λ d r. run_plan (impl_member_plan a v d) k ts r)) f)) g
 
   -- A MACRO
 

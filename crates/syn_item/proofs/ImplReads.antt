@@ -45,11 +45,11 @@ abbrev pub before_rest : Syntax → Syntax → Syntax
 before_rest (Both a (Both b c)) rest = Both a (Both b (Both c rest))
 before_rest s rest = rest
 
-abbrev pub goes_on : (Stream → Out) → TreeAndRest → Out
-goes_on rest x = wrap (before_rest x.0) (rest x.1)
+abbrev pub proceeds : (Stream → Out) → TreeAndRest → Out
+proceeds rest x = wrap (before_rest x.0) (rest x.1)
 
 module _ (p q rest : Stream → Out) (t : Syntax) (n : Stream) where
-  pub three_read : (o : Out) → and_then o (λ r. and_then (p r) q) ≡ Some (t, n) → and_then o (λ r. and_then (p r) (λ z. and_then (q z) rest)) ≡ goes_on rest (t, n)
+  pub three_read : (o : Out) → and_then o (λ r. and_then (p r) q) ≡ Some (t, n) → and_then o (λ r. and_then (p r) (λ z. and_then (q z) rest)) ≡ proceeds rest (t, n)
   three_read None e = absurd (cc e)
   three_read (Some x) e = second (p x.1) e
     where
@@ -57,13 +57,13 @@ module _ (p q rest : Stream → Out) (t : Syntax) (n : Stream) where
       joined y z None = refl
       joined y z (Some w) = refl
 
-      third : (y : Syntax) (o : Out) → wrap (Both x.0) (wrap (Both y) o) ≡ Some (t, n) → wrap (Both x.0) (wrap (Both y) (and_then o rest)) ≡ goes_on rest (t, n)
+      third : (y : Syntax) (o : Out) → wrap (Both x.0) (wrap (Both y) o) ≡ Some (t, n) → wrap (Both x.0) (wrap (Both y) (and_then o rest)) ≡ proceeds rest (t, n)
       third y None e = absurd (cc e)
       third y (Some z) e =
           let i : ◌≡◌ {A = TreeAndRest} (Both x.0 (Both y z.0), z.1) (t, n) = cc e in
-          joined y z.0 (rest z.1) ∙ ap (goes_on rest) i
+          joined y z.0 (rest z.1) ∙ ap (proceeds rest) i
 
-      second : (o : Out) → wrap (Both x.0) (and_then o q) ≡ Some (t, n) → wrap (Both x.0) (and_then o (λ z. and_then (q z) rest)) ≡ goes_on rest (t, n)
+      second : (o : Out) → wrap (Both x.0) (and_then o q) ≡ Some (t, n) → wrap (Both x.0) (and_then o (λ z. and_then (q z) rest)) ≡ proceeds rest (t, n)
       second None e = absurd (cc e)
       second (Some y) e = third y.0 (q y.1) e
 

@@ -19,7 +19,7 @@ use Rattle.syn_tokens.specs.Lists.{Sequence, nothing_listed}
 use Rattle.syn_lower.specs.Parameters.{after}
 use Rattle.syn_lower.specs.Parts.{first, second}
 use Rattle.syn_item.specs.SignatureForms.{before_parameters, inputs_by, is_first, named_pattern, next_parameter, of_variadic, other_parameter, parameter_after, parameters_after, read_parameter, typed_as, with_attributes}
-use Rattle.syn_item.specs.Signatures.{comma_behind, parameters_of, receiver_argument, syntax_of_FnArg}
+use Rattle.syn_item.specs.Signatures.{comma_after, parameters_of, receiver_argument, syntax_of_FnArg}
 use Rattle.syn_item.specs.declared.sig.FnArg.TheVariants as FnArg-m
 use Rattle.syn_item.proofs.Supplied.{supplied_is, with_name}
 
@@ -56,8 +56,8 @@ module _ (a name : Syntax) where
   abbrev built : Out → Out
   built o = made a (wrap Right (wrap Node (wrap Right (wrap (with_name name) o))))
 
-  behind_type : (t : Syntax) (m : Stream) → built (wrap Right (wrap (Both t) (parse_form others m))) ≡ parameters_after (Left (typed_as a name t)) m
-  behind_type t m = go (sees at_comma m)
+  after_type : (t : Syntax) (m : Stream) → built (wrap Right (wrap (Both t) (parse_form others m))) ≡ parameters_after (Left (typed_as a name t)) m
+  after_type t m = go (sees at_comma m)
     where
       more : (c : Syntax) (o : Out) → built (wrap Right (wrap (Both t) (wrap Left (wrap (Both c) o)))) ≡ wrap (λ l. Node (more_members parameters (typed_as a name t) c l)) o
       more c None = refl
@@ -82,7 +82,7 @@ module _ (a name : Syntax) where
 
       typed : (o : Out) → built (wrap Right (and_then o (parse_form others))) ≡ after (wrap (λ t. Left (typed_as a name t)) o) parameters_after
       typed None = refl
-      typed (Some p) = behind_type p.0 p.1
+      typed (Some p) = after_type p.0 p.1
 
       go : (b : Bool) → built (branch b (parse_rule variadic m) (and_then (parse_rule type m) (parse_form others)))
           ≡ after (pick b (wrap (λ v. Right (of_variadic a (Left (Both (first name) (second name))) v)) (parse_rule variadic m)) (wrap (λ t. Left (typed_as a name t)) (parse_rule type m))) parameters_after
@@ -160,29 +160,29 @@ abbrev listed : Pairs → Option FnArg-m.the_data → Syntax
 listed = list_of syntax_of_FnArg comma_syntax
 
 -- after the parameters before it, the list of all of them
-all_before : (l : Pairs) (last : Option FnArg-m.the_data) (behind : Syntax) → before_parameters l (Node (Shaped parameters (Both (listed [] last) behind))) ≡ Node (Shaped parameters (Both (listed l last) behind))
-all_before [] last behind = refl
-all_before (x ∷ l) last behind = ap (λ s. Node (more_members parameters (syntax_of_FnArg x.0) (comma_syntax x.1) s)) (all_before l last behind)
+all_before : (l : Pairs) (last : Option FnArg-m.the_data) (following : Syntax) → before_parameters l (Node (Shaped parameters (Both (listed [] last) following))) ≡ Node (Shaped parameters (Both (listed l last) following))
+all_before [] last following = refl
+all_before (x ∷ l) last following = ap (λ s. Node (more_members parameters (syntax_of_FnArg x.0) (comma_syntax x.1) s)) (all_before l last following)
 
 front_grows : (l : Pairs) (x : FnArg-m.the_data) (c : Comma) (s : Syntax) → before_parameters (l ++ (x, c) ∷ []) s ≡ before_parameters l (Node (more_members parameters (syntax_of_FnArg x) (comma_syntax c) s))
 front_grows [] x c s = refl
 front_grows (y ∷ l) x c s = ap (λ t. Node (more_members parameters (syntax_of_FnArg y.0) (comma_syntax y.1) t)) (front_grows l x c s)
 
 -- the last comma isn't added if there is one
-comma_stands : (l : Pairs) → comma_behind (listed l None) ≡ listed l None
-comma_stands [] = refl
-comma_stands (x ∷ l) = ap (λ s. Node (Right (Both (syntax_of_FnArg x.0) (Left (Both (comma_syntax x.1) s))))) (comma_stands l)
+comma_present : (l : Pairs) → comma_after (listed l None) ≡ listed l None
+comma_present [] = refl
+comma_present (x ∷ l) = ap (λ s. Node (Right (Both (syntax_of_FnArg x.0) (Left (Both (comma_syntax x.1) s))))) (comma_present l)
 
 -- after a parameter, by whether a comma is next
-abbrev behind : Syntax → Stream → Bool → Out
-behind x m b = pick b (after (take_mark comma m) (λ sign n. wrap (λ t. Node (more_members parameters x sign t)) (parse_rule later_inputs n))) (Some (Node (one_member parameters x Nothing (Right Nothing)), m))
+abbrev following : Syntax → Stream → Bool → Out
+following x m b = pick b (after (take_mark comma m) (λ sign n. wrap (λ t. Node (more_members parameters x sign t)) (parse_rule later_inputs n))) (Some (Node (one_member parameters x Nothing (Right Nothing)), m))
 
-module _ (l : Pairs) (ts : Stream) (goes_on : sees ended ts ≡ false) where
+module _ (l : Pairs) (ts : Stream) (proceeds : sees ended ts ≡ false) where
   -- one more, and a comma after it
   pub one_more : (x : FnArg-m.the_data) (c : Comma) (m r : Stream) → read_parameter (is_first {B = FnArg-m.the_data} l None) ts ≡ Some (Left (syntax_of_FnArg x), m) → sees at_comma m ≡ true → take_mark comma m ≡ Some (comma_syntax c, r) →
       wrap (before_parameters l) (inputs_by (is_first {B = FnArg-m.the_data} l None) ts) ≡ wrap (before_parameters (l ++ (x, c) ∷ [])) (inputs_by false r)
   one_more x c m r e h k =
-      ap (wrap (before_parameters l)) (step (is_first {B = FnArg-m.the_data} l None) ts goes_on ∙ ap (λ o. after o parameters_after) e ∙ ap (behind (syntax_of_FnArg x) m) h ∙ ap (λ o. after o (λ sign n. wrap (λ t. Node (more_members parameters (syntax_of_FnArg x) sign t)) (parse_rule later_inputs n))) k)
+      ap (wrap (before_parameters l)) (step (is_first {B = FnArg-m.the_data} l None) ts proceeds ∙ ap (λ o. after o parameters_after) e ∙ ap (following (syntax_of_FnArg x) m) h ∙ ap (λ o. after o (λ sign n. wrap (λ t. Node (more_members parameters (syntax_of_FnArg x) sign t)) (parse_rule later_inputs n))) k)
       ∙ wrap_wrap (before_parameters l) (λ t. Node (more_members parameters (syntax_of_FnArg x) (comma_syntax c) t)) (parse_rule later_inputs r)
       ∙ wrap_same _ _ (λ s. sym (front_grows l x c s)) (parse_rule later_inputs r)
 
@@ -190,25 +190,25 @@ module _ (l : Pairs) (ts : Stream) (goes_on : sees ended ts ≡ false) where
   pub no_comma : (x : FnArg-m.the_data) (m : Stream) → read_parameter (is_first {B = FnArg-m.the_data} l None) ts ≡ Some (Left (syntax_of_FnArg x), m) → sees at_comma m ≡ true → take_mark comma m ≡ None →
       wrap (before_parameters l) (inputs_by (is_first {B = FnArg-m.the_data} l None) ts) ≡ None
   no_comma x m e h k =
-      ap (wrap (before_parameters l)) (step (is_first {B = FnArg-m.the_data} l None) ts goes_on ∙ ap (λ o. after o parameters_after) e ∙ ap (behind (syntax_of_FnArg x) m) h ∙ ap (λ o. after o (λ sign n. wrap (λ t. Node (more_members parameters (syntax_of_FnArg x) sign t)) (parse_rule later_inputs n))) k)
+      ap (wrap (before_parameters l)) (step (is_first {B = FnArg-m.the_data} l None) ts proceeds ∙ ap (λ o. after o parameters_after) e ∙ ap (following (syntax_of_FnArg x) m) h ∙ ap (λ o. after o (λ sign n. wrap (λ t. Node (more_members parameters (syntax_of_FnArg x) sign t)) (parse_rule later_inputs n))) k)
 
   -- the last one, without a comma
   pub last_one : (x : FnArg-m.the_data) (m : Stream) → read_parameter (is_first {B = FnArg-m.the_data} l None) ts ≡ Some (Left (syntax_of_FnArg x), m) → sees at_comma m ≡ false →
       wrap (before_parameters l) (inputs_by (is_first {B = FnArg-m.the_data} l None) ts) ≡ Some (parameters_of (listed l (Some x)) (Right Nothing), m)
   last_one x m e h =
-      ap (wrap (before_parameters l)) (step (is_first {B = FnArg-m.the_data} l None) ts goes_on ∙ ap (λ o. after o parameters_after) e ∙ ap (behind (syntax_of_FnArg x) m) h)
+      ap (wrap (before_parameters l)) (step (is_first {B = FnArg-m.the_data} l None) ts proceeds ∙ ap (λ o. after o parameters_after) e ∙ ap (following (syntax_of_FnArg x) m) h)
       ∙ ap (λ s. Some (s, m)) (all_before l (Some x) (Right Nothing))
 
   -- a variadic one
   pub variadic_one : (v : Syntax) (m : Stream) → read_parameter (is_first {B = FnArg-m.the_data} l None) ts ≡ Some (Right v, m) →
       wrap (before_parameters l) (inputs_by (is_first {B = FnArg-m.the_data} l None) ts) ≡ Some (parameters_of (listed l None) (Left v), m)
   variadic_one v m e =
-      ap (wrap (before_parameters l)) (step (is_first {B = FnArg-m.the_data} l None) ts goes_on ∙ ap (λ o. after o parameters_after) e)
-      ∙ ap (λ s. Some (s, m)) (all_before l None (Left v) ∙ ap (λ s. Node (Shaped parameters (Both s (Left v)))) (sym (comma_stands l)))
+      ap (wrap (before_parameters l)) (step (is_first {B = FnArg-m.the_data} l None) ts proceeds ∙ ap (λ o. after o parameters_after) e)
+      ∙ ap (λ s. Some (s, m)) (all_before l None (Left v) ∙ ap (λ s. Node (Shaped parameters (Both s (Left v)))) (sym (comma_present l)))
 
   -- none
   pub none_more : read_parameter (is_first {B = FnArg-m.the_data} l None) ts ≡ None → wrap (before_parameters l) (inputs_by (is_first {B = FnArg-m.the_data} l None) ts) ≡ None
-  none_more e = ap (wrap (before_parameters l)) (step (is_first {B = FnArg-m.the_data} l None) ts goes_on ∙ ap (λ o. after o parameters_after) e)
+  none_more e = ap (wrap (before_parameters l)) (step (is_first {B = FnArg-m.the_data} l None) ts proceeds ∙ ap (λ o. after o parameters_after) e)
 
 -- the end
 pub all_read : (l : Pairs) (ts : Stream) → sees ended ts ≡ true → wrap (before_parameters l) (inputs_by (is_first {B = FnArg-m.the_data} l None) ts) ≡ Some (parameters_of (listed l None) (Right Nothing), ts)

@@ -141,15 +141,15 @@ past_bang (leaf x sp m) p e = absurd (cc e)
 past_bang (group d o c i m) p e = absurd (cc e)
 past_bang (punct n j sp m) p e = go (nat_eq n 33) refl e
   where
-    behind : (j : Bool) → past (punct 33 j sp m) ≡ m
-    behind true = refl
-    behind false = refl
+    following : (j : Bool) → past (punct 33 j sp m) ≡ m
+    following true = refl
+    following false = refl
 
     go : (b : Bool) → nat_eq n 33 ≡ b → marked_as (only b (Some ((n, sp) ∷ [], m))) ≡ Some p → past (punct n j sp m) ≡ p.1
     go false h i = absurd (cc i)
     go true h i =
         let q : ◌≡◌ {A = TreeAndRest} (Mark ((n, sp) ∷ []), m) p = cc i in
-        ap (λ (z : ℕ). past (punct z j sp m)) (eqb-true n 33 h) ∙ behind j ∙ ap (λ (y : TreeAndRest). y.1) q
+        ap (λ (z : ℕ). past (punct z j sp m)) (eqb-true n 33 h) ∙ following j ∙ ap (λ (y : TreeAndRest). y.1) q
 
 -- no end of an impl begins with `for`
 no_body : (q : Stream) → sees at_for q ≡ true → parse_rule impl_body q ≡ None

@@ -10,7 +10,7 @@ use Rattle.syn_grammar.specs.Table.{at_bang, at_colon, at_equals, at_extern, at_
 use Rattle.syn_grammar.specs.Take.{Out, sees}
 use Rattle.syn_grammar.specs.Run.{branch, parse_form, parse_rule, wrap}
 use Rattle.syn_grammar.specs.Plan.{Plan, ends, follow, run_plan}
-use Rattle.syn_grammar.specs.ItemPlan.{Place, public, unwritten, plain, absent, bare_impl_plan, behind_visibility, const_plan, definition_plan, enum_plan, function_end, inherited, item_behind, kept_end, macro_plan, module_plan, other_plan, static_plan, struct_plan, trait_or_alias, trait_plan, type_plan, union_plan, use_plan}
+use Rattle.syn_grammar.specs.ItemPlan.{Place, public, unwritten, plain, absent, bare_impl_plan, after_visibility, const_plan, definition_plan, enum_plan, function_end, inherited, item_after, kept_end, macro_plan, module_plan, other_plan, static_plan, struct_plan, trait_or_alias, trait_plan, type_plan, union_plan, use_plan}
 use Rattle.syn_grammar.proofs.Each.{macro_as_item_rest_is, macro_item_rest_is}
 use Rattle.syn_grammar.proofs.PlanSteps.{Event, happened, left_over, marked, took, went}
 use Rattle.syn_item.specs.ItemTurns.{const_or_kept_turn, const_turn, default_impl_turn, default_next, extern_turn, function_turn, no_visibility, other_kinds_turn, place_next, unsafe_turn}
@@ -24,64 +24,64 @@ use Rattle.syn_item.proofs.PlanRows.{row_is}
 
 module _ (k : Rule) (ts : Stream) (a : Syntax) (m : Stream) where
   abbrev placed : Out
-  placed = run_plan (item_behind a) k ts m
+  placed = run_plan (item_after a) k ts m
 
   abbrev by_place : Place → Out → Out
-  by_place p o = follow (λ v n. run_plan (behind_visibility p a v) k ts n) o
+  by_place p o = follow (λ v n. run_plan (after_visibility p a v) k ts n) o
 
   placed_goes : placed ≡ by_place (place_next m) (parse_rule visibility m)
-  unfolding item_behind
+  unfolding item_after
   placed_goes = go (sees (at_word w_pub) m) refl (sees at_empty_group m) refl
     where
-      go : (w : Bool) → sees (at_word w_pub) m ≡ w → (e : Bool) → sees at_empty_group m ≡ e → run_plan (item_behind a) k ts m ≡ by_place (pick w public (pick e unwritten plain)) (parse_rule visibility m)
-      go true h e i = happened k ts (went true ∷ []) (item_behind a) m (h, tt)
-      go false h true i = happened k ts (went false ∷ went true ∷ []) (item_behind a) m (h, (i, tt))
+      go : (w : Bool) → sees (at_word w_pub) m ≡ w → (e : Bool) → sees at_empty_group m ≡ e → run_plan (item_after a) k ts m ≡ by_place (pick w public (pick e unwritten plain)) (parse_rule visibility m)
+      go true h e i = happened k ts (went true ∷ []) (item_after a) m (h, tt)
+      go false h true i = happened k ts (went false ∷ went true ∷ []) (item_after a) m (h, (i, tt))
       go false h false i =
-          happened k ts (went false ∷ went false ∷ []) (item_behind a) m (h, (i, tt))
+          happened k ts (went false ∷ went false ∷ []) (item_after a) m (h, (i, tt))
           ∙ sym (ap (by_place plain) (none_written m (ap (λ b. or b (sees at_empty_group m)) h ∙ i)))
 
   pub visibility_refused : parse_rule visibility m ≡ None → placed ≡ None
   visibility_refused e = placed_goes ∙ ap (by_place (place_next m)) e
 
   pub place_follows : {X E : Type 0} (refusal : E → Type 0) (view : X → Syntax) (x : Result (Option X) E) (new : Stream) (v : Syntax) (n : Stream) (p : Place) → parse_rule visibility m ≡ Some (v, n) → p ≡ place_next m →
-      Follows refusal view k ts (run_plan (behind_visibility p a v) k ts n) x new → Follows refusal view k ts placed x new
+      Follows refusal view k ts (run_plan (after_visibility p a v) k ts n) x new → Follows refusal view k ts placed x new
   place_follows refusal view x new v n p e h f =
-      subst (λ (o : Out). Follows refusal view k ts o x new) (ap (λ (z : Place). run_plan (behind_visibility z a v) k ts n) h ∙ sym (placed_goes ∙ ap (by_place (place_next m)) e)) f
+      subst (λ (o : Out). Follows refusal view k ts o x new) (ap (λ (z : Place). run_plan (after_visibility z a v) k ts n) h ∙ sym (placed_goes ∙ ap (by_place (place_next m)) e)) f
 
 -- AFTER THE VISIBILITY
 
 module _ (k : Rule) (ts : Stream) (p : Place) (a v : Syntax) (m : Stream) where
   abbrev run : Out
-  run = run_plan (behind_visibility p a v) k ts m
+  run = run_plan (after_visibility p a v) k ts m
 
   abbrev visible : Syntax → Syntax
   visible s = Both a (Node (Both v s))
 
   pub struct_read : sees (at_word w_struct) m ≡ true → (t : Syntax) (r : Stream) → wrap visible (parse_form (plainly (word w_struct) & plainly name & rule generics & rule structure_body) m) ≡ Some (t, r) → run ≡ Some (Node (Case structure t), r)
-  unfolding behind_visibility
-  struct_read h t r e = happened k ts (went true ∷ []) (behind_visibility p a v) m (h, tt) ∙ struct_goes k ts a v m ∙ ap (wrap (λ t. Node (Case structure t))) e
+  unfolding after_visibility
+  struct_read h t r e = happened k ts (went true ∷ []) (after_visibility p a v) m (h, tt) ∙ struct_goes k ts a v m ∙ ap (wrap (λ t. Node (Case structure t))) e
 
   pub struct_refused : sees (at_word w_struct) m ≡ true → wrap visible (parse_form (plainly (word w_struct) & plainly name & rule generics & rule structure_body) m) ≡ None → run ≡ None
-  unfolding behind_visibility
-  struct_refused h e = happened k ts (went true ∷ []) (behind_visibility p a v) m (h, tt) ∙ struct_goes k ts a v m ∙ ap (wrap (λ t. Node (Case structure t))) e
+  unfolding after_visibility
+  struct_refused h e = happened k ts (went true ∷ []) (after_visibility p a v) m (h, tt) ∙ struct_goes k ts a v m ∙ ap (wrap (λ t. Node (Case structure t))) e
 
   module _ (no_struct : sees (at_word w_struct) m ≡ false) where
     pub enum_read : sees (at_word w_enum) m ≡ true → (t : Syntax) (r : Stream) → wrap visible (parse_form (plainly (word w_enum) & plainly name & rule generics & rule where_clause & inside Brace (rule variants)) m) ≡ Some (t, r) → run ≡ Some (Node (Case enumeration t), r)
-    unfolding behind_visibility
-    enum_read h t r e = happened k ts (went false ∷ went true ∷ []) (behind_visibility p a v) m (no_struct, (h, tt)) ∙ enum_goes k ts a v m ∙ ap (wrap (λ t. Node (Case enumeration t))) e
+    unfolding after_visibility
+    enum_read h t r e = happened k ts (went false ∷ went true ∷ []) (after_visibility p a v) m (no_struct, (h, tt)) ∙ enum_goes k ts a v m ∙ ap (wrap (λ t. Node (Case enumeration t))) e
 
     pub enum_refused : sees (at_word w_enum) m ≡ true → wrap visible (parse_form (plainly (word w_enum) & plainly name & rule generics & rule where_clause & inside Brace (rule variants)) m) ≡ None → run ≡ None
-    unfolding behind_visibility
-    enum_refused h e = happened k ts (went false ∷ went true ∷ []) (behind_visibility p a v) m (no_struct, (h, tt)) ∙ enum_goes k ts a v m ∙ ap (wrap (λ t. Node (Case enumeration t))) e
+    unfolding after_visibility
+    enum_refused h e = happened k ts (went false ∷ went true ∷ []) (after_visibility p a v) m (no_struct, (h, tt)) ∙ enum_goes k ts a v m ∙ ap (wrap (λ t. Node (Case enumeration t))) e
 
     module _ (no_enum : sees (at_word w_enum) m ≡ false) where
       pub union_read : sees (at_word w_union and_also ahead Begins_item) m ≡ true → (t : Syntax) (r : Stream) → wrap visible (parse_form (plainly (word w_union) & plainly name & rule generics & rule where_clause & rule fields_named) m) ≡ Some (t, r) → run ≡ Some (Node (Case union_item t), r)
-      unfolding behind_visibility
-      union_read h t r e = happened k ts (went false ∷ went false ∷ went true ∷ []) (behind_visibility p a v) m (no_struct, (no_enum, (h, tt))) ∙ union_goes k ts a v m ∙ ap (wrap (λ t. Node (Case union_item t))) e
+      unfolding after_visibility
+      union_read h t r e = happened k ts (went false ∷ went false ∷ went true ∷ []) (after_visibility p a v) m (no_struct, (no_enum, (h, tt))) ∙ union_goes k ts a v m ∙ ap (wrap (λ t. Node (Case union_item t))) e
 
       pub union_refused : sees (at_word w_union and_also ahead Begins_item) m ≡ true → wrap visible (parse_form (plainly (word w_union) & plainly name & rule generics & rule where_clause & rule fields_named) m) ≡ None → run ≡ None
-      unfolding behind_visibility
-      union_refused h e = happened k ts (went false ∷ went false ∷ went true ∷ []) (behind_visibility p a v) m (no_struct, (no_enum, (h, tt))) ∙ union_goes k ts a v m ∙ ap (wrap (λ t. Node (Case union_item t))) e
+      unfolding after_visibility
+      union_refused h e = happened k ts (went false ∷ went false ∷ went true ∷ []) (after_visibility p a v) m (no_struct, (no_enum, (h, tt))) ∙ union_goes k ts a v m ∙ ap (wrap (λ t. Node (Case union_item t))) e
 
       module _ (no_union : sees (at_word w_union and_also ahead Begins_item) m ≡ false) where
         module _ {X E : Type 0} (refusal : E → Type 0) (view : X → Syntax) (x : Result (Option X) E) (new : Stream) where
@@ -89,22 +89,22 @@ module _ (k : Rule) (ts : Stream) (p : Place) (a v : Syntax) (m : Stream) where
           Goes o = Follows refusal view k ts o x new
 
           pub type_follows : sees (at_word w_type) m ≡ true → Follows refusal view k ts (run_plan (type_plan a v) k ts m) x new → Follows refusal view k ts run x new
-          unfolding behind_visibility
-          type_follows h = subst Goes (sym (happened k ts (went false ∷ went false ∷ went false ∷ went true ∷ []) (behind_visibility p a v) m (no_struct, (no_enum, (no_union, (h, tt))))))
+          unfolding after_visibility
+          type_follows h = subst Goes (sym (happened k ts (went false ∷ went false ∷ went false ∷ went true ∷ []) (after_visibility p a v) m (no_struct, (no_enum, (no_union, (h, tt))))))
 
           pub static_follows : sees (at_word w_type) m ≡ false → sees (at_word w_static) m ≡ true → Follows refusal view k ts (run_plan (static_plan a v) k ts m) x new → Follows refusal view k ts run x new
-          unfolding behind_visibility
-          static_follows t h = subst Goes (sym (happened k ts (went false ∷ went false ∷ went false ∷ went false ∷ went true ∷ []) (behind_visibility p a v) m (no_struct, (no_enum, (no_union, (t, (h, tt)))))))
+          unfolding after_visibility
+          static_follows t h = subst Goes (sym (happened k ts (went false ∷ went false ∷ went false ∷ went false ∷ went true ∷ []) (after_visibility p a v) m (no_struct, (no_enum, (no_union, (t, (h, tt)))))))
 
           pub use_follows : sees (at_word w_type) m ≡ false → sees (at_word w_static) m ≡ false → sees (at_word w_use) m ≡ true → Follows refusal view k ts (run_plan (use_plan a v) k ts m) x new → Follows refusal view k ts run x new
-          unfolding behind_visibility
-          use_follows t s h = subst Goes (sym (happened k ts (went false ∷ went false ∷ went false ∷ went false ∷ went false ∷ went true ∷ []) (behind_visibility p a v) m (no_struct, (no_enum, (no_union, (t, (s, (h, tt))))))))
+          unfolding after_visibility
+          use_follows t s h = subst Goes (sym (happened k ts (went false ∷ went false ∷ went false ∷ went false ∷ went false ∷ went true ∷ []) (after_visibility p a v) m (no_struct, (no_enum, (no_union, (t, (s, (h, tt))))))))
 
           pub others_follow : sees (at_word w_type) m ≡ false → sees (at_word w_static) m ≡ false → sees (at_word w_use) m ≡ false → sees (at_word w_mod) m ≡ false →
               Follows refusal view k ts (run_plan (other_kinds_turn p a v) k ts m) x new → Follows refusal view k ts run x new
-          unfolding behind_visibility
+          unfolding after_visibility
           others_follow t s u h =
-              subst Goes (sym (happened k ts (went false ∷ went false ∷ went false ∷ went false ∷ went false ∷ went false ∷ went false ∷ []) (behind_visibility p a v) m (no_struct, (no_enum, (no_union, (t, (s, (u, (h, tt)))))))))
+              subst Goes (sym (happened k ts (went false ∷ went false ∷ went false ∷ went false ∷ went false ∷ went false ∷ went false ∷ []) (after_visibility p a v) m (no_struct, (no_enum, (no_union, (t, (s, (u, (h, tt)))))))))
 
         module _ (no_type : sees (at_word w_type) m ≡ false) (no_static : sees (at_word w_static) m ≡ false) (no_use : sees (at_word w_use) m ≡ false) (at_mod : sees (at_word w_mod) m ≡ true) where
           abbrev module_read_as : Out
@@ -113,9 +113,9 @@ module _ (k : Rule) (ts : Stream) (p : Place) (a v : Syntax) (m : Stream) where
               (parse_form (plainly (word w_mod) & plainly (name_or (w_try ∷ [])) & (when at_semicolon then punctuation semicolon else unshown & inside Brace (rule inner_attributes & rule items))) m)
 
           mod_goes : run ≡ wrap (λ t. Node (Case module_item t)) module_read_as
-          unfolding behind_visibility
+          unfolding after_visibility
           mod_goes =
-              happened k ts (went false ∷ went false ∷ went false ∷ went false ∷ went false ∷ went false ∷ went true ∷ []) (behind_visibility p a v) m (no_struct, (no_enum, (no_union, (no_type, (no_static, (no_use, (at_mod, tt)))))))
+              happened k ts (went false ∷ went false ∷ went false ∷ went false ∷ went false ∷ went false ∷ went true ∷ []) (after_visibility p a v) m (no_struct, (no_enum, (no_union, (no_type, (no_static, (no_use, (at_mod, tt)))))))
               ∙ module_goes k ts a v m absent
 
           pub mod_read : (t : Syntax) (r : Stream) → module_read_as ≡ Some (t, r) → run ≡ Some (Node (Case module_item t), r)

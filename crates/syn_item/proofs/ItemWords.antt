@@ -106,8 +106,8 @@ module _ (k : Rule) (ts : Stream) (p : Place) (a v : Syntax) (m : Stream) (at_un
       ∙ ap₂ (kinds x r) (ap (sees (at_word w_mod)) (sym (past_word w_unsafe m (x, r) e)) ∙ h) (ap trait_next (sym (past_word w_unsafe m (x, r) e)) ∙ i)
 
   module _ (u : Syntax) (r : Stream) (read : parse_form (optional_item_word w_unsafe) m ≡ Some (u, r)) where
-    told : ReadWord w_unsafe u m r
-    told = word_known w_unsafe m u r at_unsafe read
+    reported : ReadWord w_unsafe u m r
+    reported = word_known w_unsafe m u r at_unsafe read
 
     abbrev module_out : Out
     module_out =
@@ -116,7 +116,7 @@ module _ (k : Rule) (ts : Stream) (p : Place) (a v : Syntax) (m : Stream) (at_un
 
     mod_goes : sees (at_word w_mod) (past m) ≡ true → unsafe_run ≡ wrap (λ t. Node (Case module_item t)) module_out
     mod_goes h =
-        let (x, q, e) = told in
+        let (x, q, e) = reported in
         kinds_at u x r q e true (trait_next (past m)) h refl ∙ ap (λ z. run_plan (module_plan a v z) k ts r) (sym q) ∙ module_goes k ts a v r u
 
     pub mod_read : sees (at_word w_mod) (past m) ≡ true → (t : Syntax) (n : Stream) → module_out ≡ Some (t, n) → unsafe_run ≡ Some (Node (Case module_item t), n)
@@ -131,14 +131,14 @@ module _ (k : Rule) (ts : Stream) (p : Place) (a v : Syntax) (m : Stream) (at_un
 
       pub trait_follows : or (sees (at_word w_trait) (past m)) (sees (at_word w_auto) (past m)) ≡ true → Follows refusal view k ts (run_plan (trait_plan a v (Right Nothing) u) k ts r) y new → Follows refusal view k ts unsafe_run y new
       trait_follows h f =
-          let (x, q, e) = told in
+          let (x, q, e) = reported in
           subst Goes (ap (λ z. run_plan (trait_plan a v (Right Nothing) z) k ts r) q ∙ sym (kinds_at u x r q e false true no_mod (sees_or (at_word w_trait) (at_word w_auto) (past m) ∙ h))) f
 
       pub impl_follows : or (sees (at_word w_trait) (past m)) (sees (at_word w_auto) (past m)) ≡ false → and (no_visibility p) (sees (at_word w_impl) (past m)) ≡ true →
           Follows refusal view k ts (run_plan (impl_plan a (Right Nothing) (Right Nothing) u) k ts r) y new → Follows refusal view k ts unsafe_run y new
       unfolding unsafe_plan
       impl_follows h i f =
-          let (x, q, e) = told in
+          let (x, q, e) = reported in
           subst Goes
           (ap (λ z. run_plan (impl_plan a (Right Nothing) (Right Nothing) z) k ts r) q
           ∙ sym (kinds_at u x r q e false false no_mod (sees_or (at_word w_trait) (at_word w_auto) (past m) ∙ h) ∙ plain_goes p x (ap (λ n. and (no_visibility p) (sees (at_word w_impl) n)) (sym (past_word w_unsafe m (x, r) e)) ∙ i))) f
@@ -153,8 +153,8 @@ module _ (k : Rule) (ts : Stream) (p : Place) (a v : Syntax) (m : Stream) (at_un
   unfolding unsafe_plan
   rest_follows refusal view y new h i j f = subst (λ (o : Out). Follows refusal view k ts o y new) (sym rest_goes) f
     where
-      behind : Syntax → Stream → Out
-      behind u r =
+      following : Syntax → Stream → Out
+      following u r =
           by_test (sees at_extern r) (follow (λ e n. run_plan (extern_plan p a v (Left u) (Node (Left (untag u))) e) k ts n) (take_token (word w_extern) r))
           (run_plan (signature_end a v absent absent (Node (Left (untag u))) absent) k ts r)
 
@@ -165,7 +165,7 @@ module _ (k : Rule) (ts : Stream) (p : Place) (a v : Syntax) (m : Stream) (at_un
       by_place unwritten u r q = refl
       by_place plain u r q = happened k ts (went false ∷ []) (unsafe_plan plain a v u) r (q, tt)
 
-      go : (o : Out) → take_token (word w_unsafe) m ≡ o → follow (λ u r. kinds u r (sees (at_word w_mod) r) (trait_next r)) o ≡ follow behind o
+      go : (o : Out) → take_token (word w_unsafe) m ≡ o → follow (λ u r. kinds u r (sees (at_word w_mod) r) (trait_next r)) o ≡ follow following o
       go None e = refl
       go (Some q) e =
           let s = sym (past_word w_unsafe m q e) in

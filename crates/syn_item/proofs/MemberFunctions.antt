@@ -12,13 +12,13 @@ use Rattle.syn_grammar.specs.Plan.{Plan, reads, turns, ends, by_test, follow, ru
 use Rattle.syn_grammar.specs.ItemPlan.{hidden, item_of, parts}
 use Rattle.syn_grammar.specs.MemberPlans.{at_function, function_after_const, trait_function_end}
 use Rattle.syn_grammar.proofs.Each.{bare_trait_function_is, signature_is}
-use Rattle.syn_grammar.proofs.Takes.{token_told}
+use Rattle.syn_grammar.proofs.Takes.{token_known}
 use Rattle.syn_parse.specs.Peeks.{past}
 
 -- the tokens after a word that was read
 pub past_word : (w : Text) (ts : Stream) (p : Syntax × Stream) → take_token (word w) ts ≡ Some p → past ts ≡ p.1
 past_word w ts p e =
-    let (y, sp, a, b, c) = token_told (word w) ts p e in
+    let (y, sp, a, b, c) = token_known (word w) ts p e in
     ap past c
 
 abbrev abi_form : Grammar

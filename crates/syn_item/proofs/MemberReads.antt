@@ -46,15 +46,15 @@ module _ (m n q : Stream) (a v d k i : Syntax) (marks_read : parse_form member_m
   const_then : Stream → Out
   const_then z = parse_form (plainly (word w_const) & name_or_underscore & unshown & value_form) z
 
-  behind_const : Stream → Out
-  behind_const z = parse_form (unshown & value_form) z
+  following_const : Stream → Out
+  following_const z = parse_form (unshown & value_form) z
 
   const_is : parse_rule impl_const m ≡ wrap Node (wrap (const_rest_of (Both a (Both v d)) (Both k i)) (parse_form value_form q))
-  unfolding const_then behind_const
+  unfolding const_then following_const
   const_is =
       impl_const_is m
       ∙ ap (wrap Node) (three_read (parse_rule visibility) (parse_form (optional w_default)) const_then (Both a (Both v d)) n (parse_rule attributes m) marks_read)
-      ∙ ap (λ o. wrap Node (wrap (λ s. Both a (Both v (Both d s))) o)) (two_read (parse_form name_or_underscore) behind_const (Both k i) q (take_token (word w_const) n) head_read)
+      ∙ ap (λ o. wrap Node (wrap (λ s. Both a (Both v (Both d s))) o)) (two_read (parse_form name_or_underscore) following_const (Both k i) q (take_token (word w_const) n) head_read)
       ∙ go (parse_form value_form q)
     where
       go : (o : Out) → wrap Node (wrap (λ s. Both a (Both v (Both d s))) (wrap (λ s. Both k (Both i s)) (wrap (Both (Unshown Nothing)) o))) ≡ wrap Node (wrap (const_rest_of (Both a (Both v d)) (Both k i)) o)

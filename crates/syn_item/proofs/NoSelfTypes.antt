@@ -11,7 +11,7 @@ use Rattle.syn_grammar.specs.Table.{table}
 use Rattle.syn_grammar.proofs.Leads.{selfless, no_part_of}
 use Rattle.syn_grammar.proofs.Run.{parse_rule_is}
 use Rattle.syn_grammar.proofs.Sets.{and_left, and_right}
-use Rattle.syn_grammar.proofs.Takes.{TreeAndRest, mark_told}
+use Rattle.syn_grammar.proofs.Takes.{TreeAndRest, mark_known}
 use Rattle.syn_item.specs.Impls.{is_shaped, without_self_type}
 
 -- a rule and a mark
@@ -31,7 +31,7 @@ under_node None s r e = absurd (cc e)
 under_node (Some p) s r e = ap is_shaped (sym (tree_of (Node p.0) s p.1 r e))
 
 not_shaped : (g : Grammar) (m r : Stream) (s : Syntax) → plain_form g ≡ true → Reads g m s r → is_shaped s ≡ false
-not_shaped (mark b cs) m r s e h = let (xs, i, c, l) = mark_told cs m (s, r) h in ap is_shaped i
+not_shaped (mark b cs) m r s e h = let (xs, i, c, l) = mark_known cs m (s, r) h in ap is_shaped i
 not_shaped (rule k) m r s e h = under_node (runs parse_rule (table k) m) s r (sym (parse_rule_is k m) ∙ h)
 not_shaped _ m r s e h = absurd (true≢false (sym e))
 

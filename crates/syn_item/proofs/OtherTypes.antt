@@ -2,7 +2,7 @@
 use Rattle.std.proofs.Common.{◌≡◌, Bool, true, false, List, [], ◌∷◌, Some, None, refl, sym, ap, ap₂, subst, ◌∙◌, true≢false}
 use Rattle.std.specs.Prelude.{Result, Ok, Err}
 use Rattle.syn_grammar.specs.Words.{Text, ampersand, colons, exclamation, semicolon, star, w_Self_type, w_const, w_crate, w_mut, w_self, w_super}
-use Rattle.syn_grammar.specs.Tokens.{Stream, Paren, Bracket, None as Invisible, Terminal, answers, at_lifetime, at_path_word, at_word, leaf_terminal, lookahead_with, or, stands}
+use Rattle.syn_grammar.specs.Tokens.{Stream, Paren, Bracket, None as Invisible, Terminal, answers, at_lifetime, at_path_word, at_word, leaf_terminal, lookahead_with, or, present}
 use Rattle.syn_grammar.specs.Rules.{more_type_words, qualified_path, type, type_arguments, type_path, type_words, types, whole_expression}
 use Rattle.syn_grammar.specs.Shape.{untagged}
 use Rattle.syn_grammar.specs.Grammar.{Grammar, Kind, Syntax, Nothing, Both, Left, Right, Node, empty, inside, lifetime, name_or, rule, shaped, suits, word, terminals, when◌then◌else◌, ◌&◌}
@@ -15,7 +15,7 @@ use Rattle.syn_grammar.proofs.Each.{path_as_type_is, type_is, type_path_is, type
 use Rattle.syn_grammar.proofs.Known.{or_off}
 use Rattle.syn_grammar.proofs.Looks.{sees_or}
 use Rattle.syn_grammar.proofs.Sets.{and_right, every, every_at}
-use Rattle.syn_grammar.proofs.Takes.{TreeAndRest, sees_stands, token_told}
+use Rattle.syn_grammar.proofs.Takes.{TreeAndRest, sees_present, token_known}
 use Rattle.syn_item.specs.ImplForms.{ReadsBefore, bang_then, path_then, types_then}
 use Rattle.syn_item.specs.Impls.{inherent, without_self_type}
 use Rattle.syn_item.proofs.FirstTypes.{at_bang_first, at_path_first, at_type_first, read_alike}
@@ -28,8 +28,8 @@ word_at t = answers at_path_word (lookahead_with t [])
 
 word_seen : (l : List Text) (ts : Stream) (p : Syntax × Stream) → every word_at (terminals (name_or l)) ≡ true → take_token (name_or l) ts ≡ Some p → sees at_path_word ts ≡ true
 word_seen l ts p w e =
-    let (y, sp, a, b, c) = token_told (name_or l) ts p e in
-    sees_stands at_path_word ts ∙ ap (stands at_path_word) c ∙ every_at word_at (leaf_terminal y) (terminals (name_or l)) w (and_right (suits (name_or l) y) _ b)
+    let (y, sp, a, b, c) = token_known (name_or l) ts p e in
+    sees_present at_path_word ts ∙ ap (present at_path_word) c ∙ every_at word_at (leaf_terminal y) (terminals (name_or l)) w (and_right (suits (name_or l) y) _ b)
 
 no_take : (l : List Text) (ts : Stream) → every word_at (terminals (name_or l)) ≡ true → sees at_path_word ts ≡ false → take_token (name_or l) ts ≡ None
 no_take l ts w h = go (take_token (name_or l) ts) refl

@@ -6,10 +6,10 @@ use Rattle.syn_grammar.proofs.Streams.{append_append, append_end}
 use Rattle.syn_tokens.specs.Building.{Building, added}
 use Rattle.syn_tokens.specs.Listing.{list_of}
 use Rattle.syn_tokens.proofs.Prints.{added_more}
-use Rattle.syn_item.specs.Signatures.{comma_behind, last_comma}
+use Rattle.syn_item.specs.Signatures.{comma_after, last_comma}
 
 module _ {T P : Type 0} (v : T → Syntax) (w : P → Syntax) where
-  pub print_comma_after : (l : List (T × P)) (o : Option T) → print (comma_behind (list_of v w l o)) ≡ print (list_of v w l o) ⧺ last_comma o
+  pub print_comma_after : (l : List (T × P)) (o : Option T) → print (comma_after (list_of v w l o)) ≡ print (list_of v w l o) ⧺ last_comma o
   print_comma_after [] None = refl
   print_comma_after [] (Some t) = ap (λ s. s ⧺ last_comma (Some t)) (sym (append_end (print (v t))))
   print_comma_after (x ∷ l) o =

@@ -21,9 +21,9 @@ module _ (k : Rule) (ts : Stream) where
   abbrev pub on : (Syntax → Plan) → Out → Out
   on f o = follow (λ s r. run_plan (f s) k ts r) o
 
-  behind : (f : Syntax → Plan) (s : Syntax) (o : Out) → on (λ t. f (Both s t)) o ≡ on f (wrap (Both s) o)
-  behind f s None = refl
-  behind f s (Some p) = refl
+  following : (f : Syntax → Plan) (s : Syntax) (o : Out) → on (λ t. f (Both s t)) o ≡ on f (wrap (Both s) o)
+  following f s None = refl
+  following f s (Some p) = refl
 
   pub row_is : (g : Grammar) (l : List Grammar) (f : Syntax → Plan) (m : Stream) → run_plan (reads_row g l f) k ts m ≡ on f (parse_form (in_row g l) m)
   row_is g [] f m = refl
@@ -32,7 +32,7 @@ module _ (k : Rule) (ts : Stream) where
       go : (o : Out) → ((s : Syntax) (r : Stream) → run_plan (reads_row h l (λ t. f (Both s t))) k ts r ≡ on (λ t. f (Both s t)) (parse_form (in_row h l) r)) →
           follow (λ s r. run_plan (reads_row h l (λ t. f (Both s t))) k ts r) o ≡ on f (and_then o (parse_form (in_row h l)))
       go None e = refl
-      go (Some p) e = e p.0 p.1 ∙ behind f p.0 (parse_form (in_row h l) p.1)
+      go (Some p) e = e p.0 p.1 ∙ following f p.0 (parse_form (in_row h l) p.1)
 
   pub row_read : (g : Grammar) (l : List Grammar) (f : Syntax → Plan) (m : Stream) (s : Syntax) (r : Stream) → parse_form (in_row g l) m ≡ Some (s, r) → run_plan (reads_row g l f) k ts m ≡ run_plan (f s) k ts r
   row_read g l f m s r e = row_is g l f m ∙ ap (on f) e

@@ -18,9 +18,9 @@ use Rattle.syn_grammar.specs.Promises.{Computes, itself}
 use Rattle.syn_lower.specs.Attributes.{attributes_syntax, none_listed, outer_listed}
 use Rattle.syn_lower.specs.Parameters.{after}
 use Rattle.syn_lower.specs.declared.attr.Attribute.{Attribute}
-use Rattle.syn_pat.specs.Patterns.{behind_attributes}
+use Rattle.syn_pat.specs.Patterns.{after_attributes}
 use Rattle.syn_item.specs.SignatureForms.{argument_after, kind_form, named_pattern, own_self_form, typed_as, typed_parameter, with_attributes}
-use Rattle.syn_item.specs.Signatures.{comma_behind, first_receiver, parameters_of, receiver_argument, receiver_as, receiver_in, receiver_of, syntax_of_FnArg, typed_argument}
+use Rattle.syn_item.specs.Signatures.{comma_after, first_receiver, parameters_of, receiver_argument, receiver_as, receiver_in, receiver_of, syntax_of_FnArg, typed_argument}
 use Rattle.syn_item.specs.declared.sig.FnArg.TheVariants as FnArg-m
 use Rattle.syn_item.proofs.Supplied.{supplied_is, with_name}
 
@@ -71,7 +71,7 @@ by_value ts = go (take_token (word w_self) ts)
 -- A PARAMETER ALONE
 
 -- with a type, as the value of a pattern with its type
-pub typed_is : (attrs pat sign ty : Syntax) → typed_argument (behind_attributes attrs (Both pat (Left (Both sign ty)))) ≡ typed_as attrs (Both pat sign) ty
+pub typed_is : (attrs pat sign ty : Syntax) → typed_argument (after_attributes attrs (Both pat (Left (Both sign ty)))) ≡ typed_as attrs (Both pat sign) ty
 typed_is (Node (Right (Unshown Nothing))) pat sign ty = refl
 typed_is attrs pat sign ty = refl
 
@@ -116,7 +116,7 @@ typed_known (Both attrs (Both pat (Left (Both colon ty)))) = refl
 typed_known s = refl
 
 -- a comma after the last one changes nothing of it
-comma_aside : (s : Syntax) → first_receiver (comma_behind s) ≡ first_receiver s
+comma_aside : (s : Syntax) → first_receiver (comma_after s) ≡ first_receiver s
 comma_aside (Node (Right (Both x (Right Nothing)))) = refl
 comma_aside (Node (Right (Both x (Left (Both sign l))))) = refl
 comma_aside s = refl

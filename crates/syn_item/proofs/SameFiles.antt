@@ -10,7 +10,7 @@ use Rattle.syn_tokens.specs.Leaves.{maybe}
 use Rattle.syn_lower.specs.Attributes.{every, inner_attributes_syntax, inner_listed, is_inner, is_outer, shown_before, syntax_of_Attribute, syntax_of_AttrStyle}
 use Rattle.syn_lower.specs.declared.attr.AttrStyle.TheVariants as AttrStyle-m
 use Rattle.syn_lower.specs.declared.attr.Attribute.{Attribute}
-use Rattle.syn_lower.proofs.Compared.{told}
+use Rattle.syn_lower.proofs.Compared.{reported}
 use Rattle.syn_item.specs.Files.{syntax_of_Frontmatter, unshown_text}
 use Rattle.syn_item.specs.Parts.{aside, members_of}
 use Rattle.syn_item.specs.declared.file.Frontmatter.{Frontmatter}
@@ -116,7 +116,7 @@ known_list (a ∷ l) = go (every is_inner chain) refl
     go false e = ap (λ t. or_shown t (shown_of (inner_before chain chain))) (unshown_is chain (a ∷ l))
 
 same_inner_attributes : (l m : List Attribute) → same_syntax (inner_attributes_syntax l) (inner_attributes_syntax m) ≡ all_same l m
-same_inner_attributes l m = told inner_listed parts_of_list _ _ (all l) (all m) (plain_listed l) (plain_listed m) (ap parts_of_list (plain_listed l) ∙ known_list l) (ap parts_of_list (plain_listed m) ∙ known_list m)
+same_inner_attributes l m = reported inner_listed parts_of_list _ _ (all l) (all m) (plain_listed l) (plain_listed m) (ap parts_of_list (plain_listed l) ∙ known_list l) (ap parts_of_list (plain_listed m) ∙ known_list m)
 
 -- A FILE: two parts that are never printed, inner attributes and items
 pub same_file : {T : Type 0} (v : T → Syntax) (a b : Option (String Global)) (c d : Option Frontmatter) (l m : List Attribute) (x y : List T) →

@@ -18,7 +18,7 @@ use Rattle.syn_lower.specs.Generics.{as_row, parameters_of, sign_of, view_Generi
 use Rattle.syn_lower.specs.Parts.{first, group_syntax}
 use Rattle.syn_lower.specs.declared.attr.Attribute.{Attribute}
 use Rattle.syn_lower.specs.declared.generics.Generics.TheInside as Generics-in
-use Rattle.syn_lower.proofs.Compared.{told}
+use Rattle.syn_lower.proofs.Compared.{reported}
 use Rattle.syn_item.specs.Impls.{for_type, implemented, inherent, is_shaped, kept_list, without_self_type}
 use Rattle.syn_item.specs.Parts.{members_of}
 use Rattle.syn_item.proofs.SameParts.{all_same}
@@ -64,7 +64,7 @@ known_without : (s : Syntax) → bared (plain_syntax (without_self_type s)) ≡ 
 known_without s = known_by s (led_part (renew s))
 
 same_without : (s t : Syntax) → same_syntax (without_self_type s) (without_self_type t) ≡ same_syntax s t
-same_without s t = told without_self_type bared (without_self_type s) (without_self_type t) s t (plain_without s) (plain_without t) (known_without s) (known_without t)
+same_without s t = reported without_self_type bared (without_self_type s) (without_self_type t) s t (plain_without s) (plain_without t) (known_without s) (known_without t)
 
 -- AFTER THE GENERICS
 
@@ -125,7 +125,7 @@ same_implemented : (q r : Option Not) (o p : Option (Syntax × For)) (s t x y : 
     same_syntax (implemented (polarity_of q) (of_trait o) s x) (implemented (polarity_of r) (of_trait p) t y)
     ≡ and (same_syntax (polarity_of q) (polarity_of r)) (and (same_syntax (of_trait o) (of_trait p)) (and (same_syntax s t) (same_syntax x y)))
 same_implemented q r o p s t x y =
-    told both_implemented of_implemented (implemented (polarity_of q) (of_trait o) s x) (implemented (polarity_of r) (of_trait p) t y) (parts (polarity_of q) (of_trait o) s x) (parts (polarity_of r) (of_trait p) t y)
+    reported both_implemented of_implemented (implemented (polarity_of q) (of_trait o) s x) (implemented (polarity_of r) (of_trait p) t y) (parts (polarity_of q) (of_trait o) s x) (parts (polarity_of r) (of_trait p) t y)
     (plain_implemented q o s x) (plain_implemented r p t y) (known_implemented q o s x) (known_implemented r p t y)
 
 -- AN IMPL

@@ -8,7 +8,7 @@ use Rattle.syn_tokens.specs.Kinds.{Semi, semi_syntax}
 use Rattle.syn_tokens.specs.Leaves.{maybe}
 use Rattle.syn_lower.specs.declared.attr.Attribute.{Attribute}
 use Rattle.syn_lower.proofs.Attributes.{same_attributes}
-use Rattle.syn_lower.proofs.Compared.{told}
+use Rattle.syn_lower.proofs.Compared.{reported}
 use Rattle.syn_item.specs.Macros.{ended_group, ended_macro, named_macro}
 use Rattle.syn_item.proofs.SameParts.{all_same, listed_same, semi_of}
 
@@ -60,7 +60,7 @@ known_macro o (Node (Both path (Both bang group))) = ap (in_macro (plain_syntax 
 known_macro o s = refl
 
 pub same_ended : (o q : Option Semi) (s t : Syntax) → same_syntax (ended_macro (semi_of o) s) (ended_macro (semi_of q) t) ≡ and (same_syntax s t) (same_syntax (semi_of o) (semi_of q))
-same_ended o q s t = told both_ended of_macro (ended_macro (semi_of o) s) (ended_macro (semi_of q) t) (Both s (semi_of o)) (Both t (semi_of q)) (plain_macro o s) (plain_macro q t) (known_macro o s) (known_macro q t)
+same_ended o q s t = reported both_ended of_macro (ended_macro (semi_of o) s) (ended_macro (semi_of q) t) (Both s (semi_of o)) (Both t (semi_of q)) (plain_macro o s) (plain_macro q t) (known_macro o s) (known_macro q t)
 
 -- after its attributes
 pub same_member_macro : (l m : List Attribute) (o q : Option Semi) (s t : Syntax) →
@@ -97,4 +97,4 @@ module _ (ident : Syntax) where
 pub same_item_macro : (l m : List Attribute) (a b : Syntax) (o q : Option Semi) (s t : Syntax) →
     and (listed_same l m) (same_syntax (named_macro a (semi_of o) s) (named_macro b (semi_of q) t)) ≡ and (all_same l m) (and (same_syntax a b) (and (same_syntax s t) (same_syntax (semi_of o) (semi_of q))))
 same_item_macro l m a b o q s t =
-    ap₂ and (same_attributes l m) (told both_named of_named (named_macro a (semi_of o) s) (named_macro b (semi_of q) t) (parts a o s) (parts b q t) (plain_named a o s) (plain_named b q t) (known_named a o s) (known_named b q t))
+    ap₂ and (same_attributes l m) (reported both_named of_named (named_macro a (semi_of o) s) (named_macro b (semi_of q) t) (parts a o s) (parts b q t) (plain_named a o s) (plain_named b q t) (known_named a o s) (known_named b q t))

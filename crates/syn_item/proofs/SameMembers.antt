@@ -18,7 +18,7 @@ use Rattle.syn_lower.specs.declared.attr.Attribute.{Attribute}
 use Rattle.syn_lower.specs.declared.bounds.TypeParamBound.TheVariants as TypeParamBound-m
 use Rattle.syn_lower.proofs.Attributes.{same_attributes}
 use Rattle.syn_lower.proofs.Bodies.{same_after_three}
-use Rattle.syn_lower.proofs.Compared.{told}
+use Rattle.syn_lower.proofs.Compared.{reported}
 use Rattle.syn_lower.proofs.GenericsCompared.{same_bounds}
 use Rattle.syn_item.specs.Macros.{among_items, among_members}
 use Rattle.syn_item.specs.Parts.{aside, generics_aside}
@@ -90,14 +90,14 @@ known_inner inner (Node (Group d o c s)) = refl
 known_inner inner s = refl
 
 same_inner : (i j s t : Syntax) → same_syntax (with_inner i s) (with_inner j t) ≡ and (same_syntax i j) (same_syntax s t)
-same_inner i j s t = told both_inner of_inner (with_inner i s) (with_inner j t) (Both i s) (Both j t) (plain_inner i s) (plain_inner j t) (known_inner i s) (known_inner j t)
+same_inner i j s t = reported both_inner of_inner (with_inner i s) (with_inner j t) (Both i s) (Both j t) (plain_inner i s) (plain_inner j t) (known_inner i s) (known_inner j t)
 
 module _ (l m : List Attribute) (a b : Optional) where
   abbrev attributes_in : Option Syntax → List Attribute → Syntax
   attributes_in c k = attributes_by_content (maybe itself c) (attributes_before_body k) (attributes_syntax k)
 
-  abbrev behind_signature : Option Syntax → List Attribute → Option Semi → Syntax
-  behind_signature c k o = function_end (attributes_in_body k) (maybe itself c) (semi_of o)
+  abbrev following_signature : Option Syntax → List Attribute → Option Semi → Syntax
+  following_signature c k o = function_end (attributes_in_body k) (maybe itself c) (semi_of o)
 
   none_same : (x y z : Bool) → and x (and y (and z false)) ≡ false
   none_same x true true = and_false x
@@ -105,10 +105,10 @@ module _ (l m : List Attribute) (a b : Optional) where
   none_same x false z = and_false x
 
   pub same_trait_function : (c d : Option Syntax) (o q : Option Semi) (s : Bool) →
-      and (same_syntax (attributes_in c l) (attributes_in d m)) (and (modifiers_aside l m a b) (and s (same_syntax (behind_signature c l o) (behind_signature d m q))))
+      and (same_syntax (attributes_in c l) (attributes_in d m)) (and (modifiers_aside l m a b) (and s (same_syntax (following_signature c l o) (following_signature d m q))))
       ≡ and (all_same l m) (and (modifiers l m a b) (and s (and (same_syntax (maybe itself c) (maybe itself d)) (same_syntax (semi_of o) (semi_of q)))))
   same_trait_function None None o q s =
-      ap₂ (λ y z. and y (and z (and s (same_syntax (behind_signature None l o) (behind_signature None m q))))) (same_attributes l m) (same_aside default_syntax a b)
+      ap₂ (λ y z. and y (and z (and s (same_syntax (following_signature None l o) (following_signature None m q))))) (same_attributes l m) (same_aside default_syntax a b)
       ∙ ap (λ z. and (all_same l m) (and (modifiers l m a b) (and s z))) (same_or_added o q)
   same_trait_function None (Some y) o q s = none_same _ (modifiers_aside l m a b) s ∙ sym (none_same (all_same l m) (modifiers l m a b) s)
   same_trait_function (Some x) None o q s = none_same _ (modifiers_aside l m a b) s ∙ sym (none_same (all_same l m) (modifiers l m a b) s)

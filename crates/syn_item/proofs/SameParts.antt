@@ -16,7 +16,7 @@ use Rattle.syn_lower.specs.Parts.{or_added}
 use Rattle.syn_lower.specs.declared.attr.Attribute.{Attribute}
 use Rattle.syn_lower.proofs.Attributes.{same_attributes}
 use Rattle.syn_lower.proofs.Bodies.{same_after_five, same_after_three}
-use Rattle.syn_lower.proofs.Compared.{told}
+use Rattle.syn_lower.proofs.Compared.{reported}
 use Rattle.syn_item.specs.Parts.{aside, generics_aside}
 use Rattle.syn_item.specs.Simple.{aliased, attributes_by_content, content_syntax, module_content, place_aside, syntax_of_WhereClausePlacement}
 use Rattle.syn_item.specs.Uses.{used}
@@ -56,7 +56,7 @@ known_generics (Both (Node (Vanishing false (Right Nothing))) (Unshown Nothing))
 known_generics s = refl
 
 pub same_generics_aside : (s t : Syntax) → same_syntax (generics_aside s) (generics_aside t) ≡ same_syntax s t
-same_generics_aside s t = told generics_aside of_generics (generics_aside s) (generics_aside t) s t (plain_generics s) (plain_generics t) (known_generics s) (known_generics t)
+same_generics_aside s t = reported generics_aside of_generics (generics_aside s) (generics_aside t) s t (plain_generics s) (plain_generics t) (known_generics s) (known_generics t)
 
 -- CONSTANTS, with their modifiers and generics
 
@@ -119,7 +119,7 @@ known_used None (Node (Right (Left (Group d o c (Node l))))) = ap (λ x. Both (R
 known_used None t = refl
 
 pub same_used : (o q : Option PathSep) (s t : Syntax) → same_syntax (used (sign_of o) s) (used (sign_of q) t) ≡ and (same_syntax (sign_of o) (sign_of q)) (same_syntax s t)
-same_used o q s t = told both_used of_used (used (sign_of o) s) (used (sign_of q) t) (Both (sign_of o) s) (Both (sign_of q) t) (plain_used o s) (plain_used q t) (known_used o s) (known_used q t)
+same_used o q s t = reported both_used of_used (used (sign_of o) s) (used (sign_of q) t) (Both (sign_of o) s) (Both (sign_of q) t) (plain_used o s) (plain_used q t) (known_used o s) (known_used q t)
 
 pub same_use : (l m : List Attribute) (o q : Option PathSep) (s t : Syntax) (v u x : Bool) →
     and (listed_same l m) (and v (and u (and (same_syntax (used (sign_of o) s) (used (sign_of q) t)) x))) ≡ and (all_same l m) (and v (and u (and (same_syntax (sign_of o) (sign_of q)) (and (same_syntax s t) x))))
@@ -169,7 +169,7 @@ module _ (p q : WhereClausePlacement-m.the_data) (c d e f s t : Syntax) where
   by_parts = and (same_syntax (place_of p) (place_of q)) (and (same_syntax c d) (and (same_syntax e f) (same_syntax s t)))
 
   pub same_placed : and places aliases ≡ by_parts
-  same_placed = told placed_parts of_placed (placed_parts (parts e s p c)) (placed_parts (parts f t q d)) (parts e s p c) (parts f t q d) (plain_placed e s p c) (plain_placed f t q d) (known_placed e s p c) (known_placed f t q d)
+  same_placed = reported placed_parts of_placed (placed_parts (parts e s p c)) (placed_parts (parts f t q d)) (parts e s p c) (parts f t q d) (plain_placed e s p c) (plain_placed f t q d) (known_placed e s p c) (known_placed f t q d)
 
 -- the two tests of an alias, as one
 pub same_alias : (l m : List Attribute) (a b : Optional) (v k i g y z x : Bool) →

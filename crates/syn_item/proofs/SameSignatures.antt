@@ -13,8 +13,8 @@ use Rattle.syn_tokens.specs.Listing.{list_of}
 use Rattle.syn_lower.specs.Attributes.{none_listed}
 use Rattle.syn_lower.specs.declared.attr.Attribute.{Attribute}
 use Rattle.syn_lower.proofs.Attributes.{same_attributes}
-use Rattle.syn_lower.proofs.Compared.{told}
-use Rattle.syn_item.specs.Signatures.{comma_behind, parameters_of, received, receiver_argument, syntax_of_FnArg, syntax_of_ReceiverKind, typed_argument}
+use Rattle.syn_lower.proofs.Compared.{reported}
+use Rattle.syn_item.specs.Signatures.{comma_after, parameters_of, received, receiver_argument, syntax_of_FnArg, syntax_of_ReceiverKind, typed_argument}
 use Rattle.syn_item.specs.declared.sig.FnArg.TheVariants as FnArg-m
 use Rattle.syn_item.specs.declared.sig.ReceiverKind.TheVariants as ReceiverKind-m
 use Rattle.syn_item.proofs.SameParts.{all_same, listed_same}
@@ -58,7 +58,7 @@ pub same_receiver : (l m : List Attribute) (o q : Option Mut) (w u : SelfValue) 
     and (listed_same l m) (same_syntax (received (maybe mut_syntax o) (self_value_syntax w) (syntax_of_ReceiverKind j)) (received (maybe mut_syntax q) (self_value_syntax u) (syntax_of_ReceiverKind k)))
     ≡ and (all_same l m) (and (same_syntax (maybe mut_syntax o) (maybe mut_syntax q)) (and (same_syntax (self_value_syntax w) (self_value_syntax u)) (same_syntax (syntax_of_ReceiverKind j) (syntax_of_ReceiverKind k))))
 same_receiver l m o q w u j k =
-    ap₂ and (same_attributes l m) (told both_received of_received (both_received (parts w o j)) (both_received (parts u q k)) (parts w o j) (parts u q k) (plain_received w o j) (plain_received u q k) (known_received w o j) (known_received u q k))
+    ap₂ and (same_attributes l m) (reported both_received of_received (both_received (parts w o j)) (both_received (parts u q k)) (parts w o j) (parts u q k) (plain_received w o j) (plain_received u q k) (known_received w o j) (known_received u q k))
 
 -- PARAMETERS
 
@@ -130,8 +130,8 @@ same_variants (FnArg-m.Typed s) (FnArg-m.Typed t) = same_syntax s t
 same_variants x y = false
 
 pub same_argument : (x y : FnArg-m.the_data) → same_syntax (syntax_of_FnArg x) (syntax_of_FnArg y) ≡ same_variants x y
-same_argument (FnArg-m.Receiver s) (FnArg-m.Receiver t) = told receiver_argument of_receiver (receiver_argument s) (receiver_argument t) s t (plain_receiver s) (plain_receiver t) (known_receiver s) (known_receiver t)
-same_argument (FnArg-m.Typed s) (FnArg-m.Typed t) = told typed_argument of_typed (typed_argument s) (typed_argument t) s t (plain_typed s) (plain_typed t) (known_typed s) (known_typed t)
+same_argument (FnArg-m.Receiver s) (FnArg-m.Receiver t) = reported receiver_argument of_receiver (receiver_argument s) (receiver_argument t) s t (plain_receiver s) (plain_receiver t) (known_receiver s) (known_receiver t)
+same_argument (FnArg-m.Typed s) (FnArg-m.Typed t) = reported typed_argument of_typed (typed_argument s) (typed_argument t) s t (plain_typed s) (plain_typed t) (known_typed s) (known_typed t)
 same_argument (FnArg-m.Receiver s) (FnArg-m.Typed t) = apart s t
 same_argument (FnArg-m.Typed s) (FnArg-m.Receiver t) = turned t s
 
@@ -157,15 +157,15 @@ of_parameters (Node (Shaped j (Both inputs (Left variadic)))) = Both (without_ad
 of_parameters (Node (Shaped j (Both inputs s))) = Both inputs s
 of_parameters s = s
 
-plain_behind : (l : Pairs) (o : Option FnArg-m.the_data) → plain_syntax (comma_behind (listed l o)) ≡ comma_behind (plain_syntax (listed l o))
-plain_behind [] None = refl
-plain_behind [] (Some t) = refl
-plain_behind (x ∷ l) o = ap (λ z. Node (Right (Both (plain_syntax (syntax_of_FnArg x.0)) (Left (Both (plain_syntax (comma_syntax x.1)) z))))) (plain_behind l o)
+plain_after : (l : Pairs) (o : Option FnArg-m.the_data) → plain_syntax (comma_after (listed l o)) ≡ comma_after (plain_syntax (listed l o))
+plain_after [] None = refl
+plain_after [] (Some t) = refl
+plain_after (x ∷ l) o = ap (λ z. Node (Right (Both (plain_syntax (syntax_of_FnArg x.0)) (Left (Both (plain_syntax (comma_syntax x.1)) z))))) (plain_after l o)
 
-told_behind : (l : Pairs) (o : Option FnArg-m.the_data) → without_added (plain_syntax (comma_behind (listed l o))) ≡ plain_syntax (listed l o)
-told_behind [] None = refl
-told_behind [] (Some t) = refl
-told_behind (x ∷ l) o = ap (λ z. Node (Right (Both (plain_syntax (syntax_of_FnArg x.0)) (Left (Both (plain_syntax (comma_syntax x.1)) z))))) (told_behind l o)
+known_after : (l : Pairs) (o : Option FnArg-m.the_data) → without_added (plain_syntax (comma_after (listed l o))) ≡ plain_syntax (listed l o)
+known_after [] None = refl
+known_after [] (Some t) = refl
+known_after (x ∷ l) o = ap (λ z. Node (Right (Both (plain_syntax (syntax_of_FnArg x.0)) (Left (Both (plain_syntax (comma_syntax x.1)) z))))) (known_after l o)
 
 module _ (l : Pairs) (o : Option FnArg-m.the_data) where
   abbrev with_variadic : Option Syntax → Syntax
@@ -173,16 +173,16 @@ module _ (l : Pairs) (o : Option FnArg-m.the_data) where
 
   plain_parameters : (v : Option Syntax) → plain_syntax (both_parameters (with_variadic v)) ≡ both_parameters (plain_syntax (with_variadic v))
   plain_parameters None = refl
-  plain_parameters (Some v) = ap (λ z. Node (Shaped parameters (Both z (Left (plain_syntax v))))) (plain_behind l o)
+  plain_parameters (Some v) = ap (λ z. Node (Shaped parameters (Both z (Left (plain_syntax v))))) (plain_after l o)
 
   known_parameters : (v : Option Syntax) → of_parameters (plain_syntax (both_parameters (with_variadic v))) ≡ plain_syntax (with_variadic v)
   known_parameters None = refl
-  known_parameters (Some v) = ap (λ z. Both z (Left (plain_syntax v))) (told_behind l o)
+  known_parameters (Some v) = ap (λ z. Both z (Left (plain_syntax v))) (known_after l o)
 
 pub same_parameters : (l m : Pairs) (o q : Option FnArg-m.the_data) (v u : Option Syntax) (x : Bool) →
     and (same_syntax (parameters_of (listed l o) (maybe itself v)) (parameters_of (listed m q) (maybe itself u))) x ≡ and (same_syntax (listed l o) (listed m q)) (and (same_syntax (maybe itself v) (maybe itself u)) x)
 same_parameters l m o q v u x =
-    ap (λ z. and z x) (told both_parameters of_parameters (both_parameters (with_variadic l o v)) (both_parameters (with_variadic m q u)) (with_variadic l o v) (with_variadic m q u) (plain_parameters l o v) (plain_parameters m q u) (known_parameters l o v) (known_parameters m q u))
+    ap (λ z. and z x) (reported both_parameters of_parameters (both_parameters (with_variadic l o v)) (both_parameters (with_variadic m q u)) (with_variadic l o v) (with_variadic m q u) (plain_parameters l o v) (plain_parameters m q u) (known_parameters l o v) (known_parameters m q u))
     ∙ sym (and_assoc (same_syntax (listed l o) (listed m q)) (same_syntax (maybe itself v) (maybe itself u)) x)
 
 -- ten tests, one after the other, that don't all hold: whatever the last one says

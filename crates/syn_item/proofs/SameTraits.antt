@@ -36,22 +36,22 @@ module _ (l m : List Attribute) where
   abbrev pub inside : Bool
   inside = same_syntax (attributes_in_body l) (attributes_in_body m)
 
-  behind_six : (a b c d e f y : Bool) → and before (and a (and b (and c (and d (and e (and f (and inside y))))))) ≡ and (all_same l m) (and a (and b (and c (and d (and e (and f y))))))
-  behind_six true b c d e f y = same_after_five l m b c d e f y
-  behind_six false b c d e f y = and_false before ∙ sym (and_false (all_same l m))
+  after_six : (a b c d e f y : Bool) → and before (and a (and b (and c (and d (and e (and f (and inside y))))))) ≡ and (all_same l m) (and a (and b (and c (and d (and e (and f y))))))
+  after_six true b c d e f y = same_after_five l m b c d e f y
+  after_six false b c d e f y = and_false before ∙ sym (and_false (all_same l m))
 
   after_seven : (a b c d e f g y : Bool) → and before (and a (and b (and c (and d (and e (and f (and g (and inside y)))))))) ≡ and (all_same l m) (and a (and b (and c (and d (and e (and f (and g y)))))))
-  after_seven true b c d e f g y = behind_six b c d e f g y
+  after_seven true b c d e f g y = after_six b c d e f g y
   after_seven false b c d e f g y = and_false before ∙ sym (and_false (all_same l m))
 
-  behind_eight : (a b c d e f g h y : Bool) →
+  after_eight : (a b c d e f g h y : Bool) →
       and before (and a (and b (and c (and d (and e (and f (and g (and h (and inside y))))))))) ≡ and (all_same l m) (and a (and b (and c (and d (and e (and f (and g (and h y))))))))
-  behind_eight true b c d e f g h y = after_seven b c d e f g h y
-  behind_eight false b c d e f g h y = and_false before ∙ sym (and_false (all_same l m))
+  after_eight true b c d e f g h y = after_seven b c d e f g h y
+  after_eight false b c d e f g h y = and_false before ∙ sym (and_false (all_same l m))
 
   pub after_nine : (a b c d e f g h i y : Bool) →
       and before (and a (and b (and c (and d (and e (and f (and g (and h (and i (and inside y)))))))))) ≡ and (all_same l m) (and a (and b (and c (and d (and e (and f (and g (and h (and i y)))))))))
-  after_nine true b c d e f g h i y = behind_eight b c d e f g h i y
+  after_nine true b c d e f g h i y = after_eight b c d e f g h i y
   after_nine false b c d e f g h i y = and_false before ∙ sym (and_false (all_same l m))
 
   -- A TRAIT, with a colon and bounds, a where clause and members

@@ -12,7 +12,7 @@ use Rattle.syn_grammar.proofs.FirstSets.{nullable}
 use Rattle.syn_grammar.proofs.Said.{start_of}
 use Rattle.syn_grammar.proofs.Run.{parse_rule_is, parse_rule_less, runs_shrinks, Less}
 use Rattle.syn_grammar.proofs.Sets.{and_left}
-use Rattle.syn_parse.specs.Nexts.{StandsNext}
+use Rattle.syn_parse.specs.Nexts.{IsNext}
 use Rattle.syn_tokens.specs.Spans.{at}
 use Rattle.syn_tokens.specs.declared.span.Span.{Span as TokenSpan}
 use Rattle.syn_lower.specs.Parameters.{after}
@@ -26,14 +26,14 @@ unfolding sees lookahead_at take_token
 underscore_read sp = parse_rule_is pattern (underscore sp)
 
 -- a name that is there has a span
-name_stands : (ts : Stream) → sees (at_unnamed Before_less) ts ≡ true → (sp : Span) × (leaf_span ts ≡ Some sp)
+name_present : (ts : Stream) → sees (at_unnamed Before_less) ts ≡ true → (sp : Span) × (leaf_span ts ≡ Some sp)
 unfolding sees lookahead_at
-name_stands end h = absurd (true≢false (sym h))
-name_stands (leaf x sp r) h = (sp, refl)
-name_stands (punct c j sp r) h = absurd (true≢false (sym (and_left (sees at_name (punct c j sp r)) _ h) ∙ no_name c j sp r))
-name_stands (group d o c i r) h = absurd (true≢false (sym h))
+name_present end h = absurd (true≢false (sym h))
+name_present (leaf x sp r) h = (sp, refl)
+name_present (punct c j sp r) h = absurd (true≢false (sym (and_left (sees at_name (punct c j sp r)) _ h) ∙ no_name c j sp r))
+name_present (group d o c i r) h = absurd (true≢false (sym h))
 
-pub name_spanned : (ts : Stream) (s : TokenSpan) → sees (at_unnamed Before_less) ts ≡ true → StandsNext ts s → leaf_span ts ≡ Some (at s)
+pub name_spanned : (ts : Stream) (s : TokenSpan) → sees (at_unnamed Before_less) ts ≡ true → IsNext ts s → leaf_span ts ≡ Some (at s)
 unfolding sees lookahead_at
 name_spanned end s h k = absurd (true≢false (sym h))
 name_spanned (leaf x sp r) s h k = ap (λ z. Some z) (sym k)
@@ -86,6 +86,6 @@ module _ (g : Grammar) (ts : Stream) (some : nullable start_of g ≡ false) wher
       go : (b : Bool) → sees (at_unnamed Before_less) ts ≡ b →
           named_or_not b (parse_rule pattern) (parse_form g) ts ≡ after (pick b (supplied_name (leaf_span ts) ts) (parse_form (rule pattern & punctuation colon) ts)) (λ name m. wrap (with_name name) (parse_form g m))
       go true h =
-          let (sp, e) = name_stands ts h in
+          let (sp, e) = name_present ts h in
           unnamed_is sp e ∙ ap (λ z. after (supplied_name z ts) (λ name m. wrap (with_name name) (parse_form g m))) (sym e)
       go false h = named_is (parse_rule pattern ts)

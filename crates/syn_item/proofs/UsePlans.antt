@@ -41,8 +41,8 @@ module _ (k : Rule) (ts : Stream) (a v : Syntax) (m : Stream) (at_use : sees (at
   of_use o = wrap (λ t. Node (Case use_item t)) (wrap (λ s. Both a (Node (Both v s))) o)
 
   -- what is read after `use`
-  abbrev behind_word : Syntax → Stream → Bool → Out
-  behind_word w r b = of_use (wrap (Both w) (and_then (branch b (such_as (has_no root_mark) (parse_form group_form r)) (parse_form (colons_form & rule use_tree) r)) (parse_form end_form)))
+  abbrev following_word : Syntax → Stream → Bool → Out
+  following_word w r b = of_use (wrap (Both w) (and_then (branch b (such_as (has_no root_mark) (parse_form group_form r)) (parse_form (colons_form & rule use_tree) r)) (parse_form end_form)))
 
   abbrev last : Syntax → Syntax → Out → Out
   last w u o = follow (λ z q. Some (value w u z, q)) o
@@ -55,7 +55,7 @@ module _ (k : Rule) (ts : Stream) (a v : Syntax) (m : Stream) (at_use : sees (at
   abbrev tree_goes : Syntax → Stream → Out
   tree_goes w r = follow (λ c q. follow (λ t n. last w (Right (Both c t)) (take_mark semicolon n)) (parse_rule use_tree q)) (parse_form colons_form r)
 
-  tree_is : (w : Syntax) (r : Stream) → tree_goes w r ≡ behind_word w r false
+  tree_is : (w : Syntax) (r : Stream) → tree_goes w r ≡ following_word w r false
   tree_is w r = go (parse_form colons_form r)
     where
       trees : (c : Syntax) (o : Out) → follow (λ t n. last w (Right (Both c t)) (take_mark semicolon n)) o ≡ of_use (wrap (Both w) (and_then (wrap Right (wrap (Both c) o)) (parse_form end_form)))
@@ -137,7 +137,7 @@ module _ (k : Rule) (ts : Stream) (a v : Syntax) (m : Stream) (at_use : sees (at
       go None e i = tt
       go (Some p) e i =
           let b : sees at_brace p.1 ≡ true = ap (sees at_brace) (sym (past_word w_use m p e)) ∙ h.0 in
-          subst (OnlyKept k ts) (sym (ap (words p.0 p.1) b)) (group_kept p.0 (parse_form group_form p.1) (sym (ap (behind_word p.0 p.1) b) ∙ i))
+          subst (OnlyKept k ts) (sym (ap (words p.0 p.1) b)) (group_kept p.0 (parse_form group_form p.1) (sym (ap (following_word p.0 p.1) b) ∙ i))
 
   goes : IsRootedGroup false m → run ≡ whole
   goes h = run_is ∙ go (take_token (word w_use) m) refl
@@ -150,11 +150,11 @@ module _ (k : Rule) (ts : Stream) (a v : Syntax) (m : Stream) (at_use : sees (at
           found b =
               let (q, i) = h (ap (sees at_brace) (past_word w_use m p e) ∙ b) in
               let (x, j) = some_whole (parse_form (plainly (word w_use) & used_form & punctuation semicolon) m) q (sym rest_read ∙ i) in
-              (x, sym (ap (behind_word p.0 p.1) b) ∙ sym (ap (λ o. of_use (and_then o (parse_form (used_form & punctuation semicolon)))) e) ∙ j)
+              (x, sym (ap (following_word p.0 p.1) b) ∙ sym (ap (λ o. of_use (and_then o (parse_form (used_form & punctuation semicolon)))) e) ∙ j)
 
-          by_brace : (b : Bool) → sees at_brace p.1 ≡ b → words p.0 p.1 (sees at_brace p.1) ≡ behind_word p.0 p.1 (sees at_brace p.1)
-          by_brace true b = let (x, j) = found b in ap (words p.0 p.1) b ∙ group_is p.0 (parse_form group_form p.1) x j ∙ sym (ap (behind_word p.0 p.1) b)
-          by_brace false b = ap (words p.0 p.1) b ∙ tree_is p.0 p.1 ∙ sym (ap (behind_word p.0 p.1) b)
+          by_brace : (b : Bool) → sees at_brace p.1 ≡ b → words p.0 p.1 (sees at_brace p.1) ≡ following_word p.0 p.1 (sees at_brace p.1)
+          by_brace true b = let (x, j) = found b in ap (words p.0 p.1) b ∙ group_is p.0 (parse_form group_form p.1) x j ∙ sym (ap (following_word p.0 p.1) b)
+          by_brace false b = ap (words p.0 p.1) b ∙ tree_is p.0 p.1 ∙ sym (ap (following_word p.0 p.1) b)
 
   pub use_read : IsRootedGroup false m → (t : Syntax) (r : Stream) → wrap (λ s. Both a (Node (Both v s))) (parse_form (plainly (word w_use) & used_form & punctuation semicolon) m) ≡ Some (t, r) → run ≡ Some (Node (Case use_item t), r)
   use_read h t r e = goes h ∙ ap (wrap (λ t. Node (Case use_item t))) e

@@ -117,7 +117,7 @@ as_used t = used (Right Nothing) t
 
 pub braced_trees : (ts : Stream) → sees at_brace ts ≡ true → read_braced ts ≡ wrap as_used (parse_rule use_tree ts)
 unfolding read_braced
-braced_trees ts h = ap (wrap Left) (go (take_group Brace ts)) ∙ wrap_wrap Left _ _ ∙ told (within Brace (take_group Brace ts) (parse_rule use_trees)) (content_is (take_group Brace ts)) ∙ ap (wrap as_used) (sym (tree_in_braces ts h))
+braced_trees ts h = ap (wrap Left) (go (take_group Brace ts)) ∙ wrap_wrap Left _ _ ∙ reported (within Brace (take_group Brace ts) (parse_rule use_trees)) (content_is (take_group Brace ts)) ∙ ap (wrap as_used) (sym (tree_in_braces ts h))
   where
     go : (o : Option Opened) → such_as none_rooted (within Brace o (parse_rule rooted_trees)) ≡ wrap (λ s. Such (rooted_group s)) (within Brace o (parse_rule use_trees))
     go None = refl
@@ -135,10 +135,10 @@ braced_trees ts h = ap (wrap Left) (go (take_group Brace ts)) ∙ wrap_wrap Left
             by_end true = tt
             by_end false = tt
 
-    told : (o : Out) → IsGroup o → wrap (λ s. Left (Such (rooted_group s))) o ≡ wrap as_used (wrap Node (wrap Right (wrap Left o)))
-    told None h = refl
-    told (Some (Group Brace o c (Node l), r)) h = refl
-    told (Some (s, r)) h = absurd h
+    reported : (o : Out) → IsGroup o → wrap (λ s. Left (Such (rooted_group s))) o ≡ wrap as_used (wrap Node (wrap Right (wrap Left o)))
+    reported None h = refl
+    reported (Some (Group Brace o c (Node l), r)) h = refl
+    reported (Some (s, r)) h = absurd h
 
 -- A TREE WITHOUT `::` BEFORE IT, and not in braces
 pub plain_trees : (ts : Stream) → sees at_brace ts ≡ false → read_plain ts ≡ wrap as_used (parse_rule use_tree ts)
@@ -165,12 +165,12 @@ plain_trees ts h = go (sees at_star ts) refl
 
 -- A USE AFTER ITS ATTRIBUTES
 module _ (a v : Syntax) where
-  behind : (o : Out) → wrap (Both a) (wrap Node (wrap (Both v) o)) ≡ wrap (item_of a v) o
-  behind None = refl
-  behind (Some p) = refl
+  following : (o : Out) → wrap (Both a) (wrap Node (wrap (Both v) o)) ≡ wrap (item_of a v) o
+  following None = refl
+  following (Some p) = refl
 
-  pub behind_visibility : (ts m : Stream) → parse_rule visibility ts ≡ Some (v, m) → wrap (Both a) (parse_rule use_item_rest ts) ≡ wrap (item_of a v) (parse_form use_form m)
-  behind_visibility ts m e = ap (wrap (Both a)) (use_item_rest_is ts ∙ ap (λ o. wrap Node (and_then o (parse_form use_form))) e) ∙ behind (parse_form use_form m)
+  pub after_visibility : (ts m : Stream) → parse_rule visibility ts ≡ Some (v, m) → wrap (Both a) (parse_rule use_item_rest ts) ≡ wrap (item_of a v) (parse_form use_form m)
+  after_visibility ts m e = ap (wrap (Both a)) (use_item_rest_is ts ∙ ap (λ o. wrap Node (and_then o (parse_form use_form))) e) ∙ following (parse_form use_form m)
 
 pub visibility_refused : (ts : Stream) → parse_rule visibility ts ≡ None → parse_rule use_item_rest ts ≡ None
 visibility_refused ts e = use_item_rest_is ts ∙ ap (λ o. wrap Node (and_then o (parse_form use_form))) e

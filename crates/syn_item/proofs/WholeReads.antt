@@ -6,7 +6,7 @@ use Rattle.syn_grammar.specs.Grammar.{Syntax, Nothing, Node, Case, Captured}
 use Rattle.syn_grammar.specs.Take.{Out, before, left}
 use Rattle.syn_grammar.specs.Run.{parse_rule}
 use Rattle.syn_grammar.specs.Plan.{Plan, follow, kept_as, run_plan}
-use Rattle.syn_grammar.specs.ItemPlan.{item_behind, item_plan}
+use Rattle.syn_grammar.specs.ItemPlan.{item_after, item_plan}
 use Rattle.syn_grammar.specs.MemberPlans.{foreign_item_plan, impl_item_plan, trait_item_plan}
 use Rattle.syn_grammar.proofs.ItemPlan.{item_plan_is}
 use Rattle.syn_grammar.proofs.MemberPlans.{foreign_item_plan_is, impl_item_plan_is, trait_item_plan_is}
@@ -19,7 +19,7 @@ use Rattle.syn_item.proofs.Kept.{kept_whole}
 
 module _ (ts : Stream) where
   abbrev item_on : Out → Out
-  item_on o = follow (λ a m. run_plan (item_behind a) kept_item ts m) o
+  item_on o = follow (λ a m. run_plan (item_after a) kept_item ts m) o
 
   item_goes : parse_rule item ts ≡ item_on (parse_rule attributes ts)
   unfolding item_plan
@@ -29,24 +29,24 @@ module _ (ts : Stream) where
   item_attributes_refused e = item_goes ∙ ap item_on e
 
   module _ (a : Syntax) (m : Stream) (outer : parse_rule attributes ts ≡ Some (a, m)) where
-    item_past : parse_rule item ts ≡ run_plan (item_behind a) kept_item ts m
+    item_past : parse_rule item ts ≡ run_plan (item_after a) kept_item ts m
     item_past = item_goes ∙ ap item_on outer
 
-    pub item_refused : run_plan (item_behind a) kept_item ts m ≡ None → parse_rule item ts ≡ None
+    pub item_refused : run_plan (item_after a) kept_item ts m ≡ None → parse_rule item ts ≡ None
     item_refused e = item_past ∙ e
 
-    module _ (s : Syntax) (r : Stream) (read : run_plan (item_behind a) kept_item ts m ≡ Some (s, r)) where
+    module _ (s : Syntax) (r : Stream) (read : run_plan (item_after a) kept_item ts m ≡ Some (s, r)) where
       pub item_read : parse_rule item ts ≡ Some (s, r)
       item_read = item_past ∙ read
 
       pub item_moved : left r + 1 ≤ left ts
       item_moved = let h = parse_rule_less item ts (s, r) item_read in omega (arith, h)
 
-    module _ (kept : OnlyKept kept_item ts (run_plan (item_behind a) kept_item ts m)) (tokens r : Stream) (copied : (s : Syntax) × (parse_rule item ts ≡ Some (s, r)) × (tokens ≡ before ts r)) where
+    module _ (kept : OnlyKept kept_item ts (run_plan (item_after a) kept_item ts m)) (tokens r : Stream) (copied : (s : Syntax) × (parse_rule item ts ≡ Some (s, r)) × (tokens ≡ before ts r)) where
       pub item_kept : parse_rule item ts ≡ Some (Node (Case kept_item (Captured Nothing tokens)), r)
       item_kept =
           let (s, e, q) = copied in
-          item_past ∙ kept_whole kept_item ts (run_plan (item_behind a) kept_item ts m) s r kept (sym item_past ∙ e)
+          item_past ∙ kept_whole kept_item ts (run_plan (item_after a) kept_item ts m) s r kept (sym item_past ∙ e)
           ∙ ap (λ (z : Stream). Some (Node (Case kept_item (Captured Nothing z)), r)) (sym q)
 
       pub item_kept_moved : left r + 1 ≤ left ts

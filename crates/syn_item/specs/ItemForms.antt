@@ -74,9 +74,9 @@ abbrev pub of_clauses : Clauses → Stream → Out
 of_clauses c m = known_alias c.is_early c.is_late (where_part c.early) (eq_syntax c.eq_token) (syntax_of_Type c.ty.value) (where_part c.late) m
 
 -- where they are refused, nothing is read
-abbrev pub TellsAlias : {E : Type 0} → (E → Type 0) → Out → Result Clauses E → Stream → Type 0
-TellsAlias refusal out (Ok c) new = out ≡ of_clauses c new
-TellsAlias refusal out (Err e) new = refusal e → out ≡ None
+abbrev pub SettlesAlias : {E : Type 0} → (E → Type 0) → Out → Result Clauses E → Stream → Type 0
+SettlesAlias refusal out (Ok c) new = out ≡ of_clauses c new
+SettlesAlias refusal out (Err e) new = refusal e → out ≡ None
 
 -- TRAIT ALIASES after their generics
 

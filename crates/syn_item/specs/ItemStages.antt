@@ -1,6 +1,6 @@
 -- STAGES OF THE PLAN OF ITEMS: what is left of it where the attributes and the visibility are known, and where a word says what continues.
 use Rattle.syn_grammar.specs.Plan.{Plan}
-use Rattle.syn_grammar.specs.ItemPlan.{Place, public, unwritten, plain, bare_impl_plan, behind_visibility, impl_generics, other_plan}
+use Rattle.syn_grammar.specs.ItemPlan.{Place, public, unwritten, plain, bare_impl_plan, after_visibility, impl_generics, other_plan}
 use Rattle.syn_tokens.specs.Kinds.{const_syntax, default_syntax, impl_syntax, unsafe_syntax}
 use Rattle.syn_tokens.specs.Leaves.{maybe}
 use Rattle.syn_lower.specs.Attributes.{attributes_syntax}
@@ -18,7 +18,7 @@ place_of Place-m.Plain = plain
 
 -- after the visibility
 abbrev pub after_place : Begun → Plan
-after_place b = behind_visibility (place_of b.place) (attributes_syntax b.attrs.items) (syntax_of_Visibility b.vis)
+after_place b = after_visibility (place_of b.place) (attributes_syntax b.attrs.items) (syntax_of_Visibility b.vis)
 
 abbrev pub other_plan_of : Begun → Plan
 other_plan_of b = other_plan (place_of b.place) (attributes_syntax b.attrs.items)

@@ -10,7 +10,7 @@ use Rattle.syn_grammar.specs.Take.{Out, sees}
 use Rattle.syn_grammar.specs.Values.{untag}
 use Rattle.syn_grammar.specs.Run.{parse_form}
 use Rattle.syn_grammar.specs.Plan.{Plan, ends, keeps, reads, turns}
-use Rattle.syn_grammar.specs.ItemPlan.{Place, public, unwritten, plain, absent, bare_impl_plan, behind_const, const_plan, definition_plan, extern_crate_plan, extern_plan, function_end, impl_of, impl_plan, kept_impl, module_plan, other_plan, restricted_end, signature_end, trait_or_alias, trait_plan, unsafe_plan}
+use Rattle.syn_grammar.specs.ItemPlan.{Place, public, unwritten, plain, absent, bare_impl_plan, following_const, const_plan, definition_plan, extern_crate_plan, extern_plan, function_end, impl_of, impl_plan, kept_impl, module_plan, other_plan, restricted_end, signature_end, trait_or_alias, trait_plan, unsafe_plan}
 
 -- the place of an item, by the next token
 abbrev pub place_next : Stream → Place
@@ -52,7 +52,7 @@ module_or_function_turn p a v =
     (signature_end a v absent absent (Node (Left (untag u))) absent))
 
 abbrev pub const_turn : Place → Syntax → Syntax → Plan
-const_turn p a v = reads (item_word w_const) λ c. behind_const p a v c
+const_turn p a v = reads (item_word w_const) λ c. following_const p a v c
 
 abbrev pub const_or_kept_turn : Syntax → Syntax → Plan
 const_or_kept_turn a v = reads (item_word w_const) λ c. const_plan a v c

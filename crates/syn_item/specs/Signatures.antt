@@ -70,10 +70,10 @@ view_Variadic a =
     (Both (maybe (pair_of (λ b. syntax_of_Pat b.value) colon_syntax) a.pat) (Node (Both (dot_dot_dot_syntax a.dots) (Both (maybe comma_syntax a.comma) (Left Nothing)))))
 
 -- parameters before a variadic one: a comma is printed after the last of them in any case
-abbrev pub comma_behind : Syntax → Syntax
-comma_behind (Node (Right (Both x (Right Nothing)))) = Node (Right (Both x (Left (Both (Added comma) (Node (Left Nothing))))))
-comma_behind (Node (Right (Both x (Left (Both sign l))))) = Node (Right (Both x (Left (Both sign (comma_behind l)))))
-comma_behind s = s
+abbrev pub comma_after : Syntax → Syntax
+comma_after (Node (Right (Both x (Right Nothing)))) = Node (Right (Both x (Left (Both (Added comma) (Node (Left Nothing))))))
+comma_after (Node (Right (Both x (Left (Both sign l))))) = Node (Right (Both x (Left (Both sign (comma_after l)))))
+comma_after s = s
 
 -- that comma, as it is printed
 abbrev pub last_comma : {T : Type 0} → Option T → Stream
@@ -82,7 +82,7 @@ last_comma (Some t) = spell (added comma) end
 
 -- parameters, and a variadic one or none
 abbrev pub parameters_of : Syntax → Syntax → Syntax
-parameters_of inputs (Left variadic) = Node (Shaped parameters (Both (comma_behind inputs) (Left variadic)))
+parameters_of inputs (Left variadic) = Node (Shaped parameters (Both (comma_after inputs) (Left variadic)))
 parameters_of inputs s = Node (Shaped parameters (Both inputs s))
 
 -- SIGNATURES: foreign ones are of the same form

@@ -13,7 +13,7 @@ use syn_recognize::deferred::{DeferredBlock, read_deferred_rest};
 use syn_tokens::token::kind;
 
 /// The inner attributes that are next, after these outer ones in one list.
-#[tactic(auto, using(crate::proofs::BodyForms::outer_stand_before, crate::proofs::BodyForms::inner_stand_inside))]
+#[tactic(auto, using(crate::proofs::BodyForms::outer_present_before, crate::proofs::BodyForms::inner_present_inside))]
 pub(crate) fn with_inner(
     attrs: Vec<Attribute>,
     input: &mut ParseBuffer<'_>,

@@ -214,12 +214,12 @@ fn tokens_of_type(ty: &Type, alloc: Global) -> Result<TokenStream, AllocError>
 
 /// Whether what follows an impl's generics, of which these are the tokens, would be read as generics where there are none; or
 /// its self type after `for` would.
-fn is_led(item: &ItemImpl, behind: &TokenStream, alloc: Global) -> Result<bool, AllocError>
-    requires { behind.now ≡ print (after_generics item.now) }
+fn is_led(item: &ItemImpl, following: &TokenStream, alloc: Global) -> Result<bool, AllocError>
+    requires { following.now ≡ print (after_generics item.now) }
     ensures { IfOk result (λ answer. answer ≡ led (renew (after_generics item.now))) }
 {
     let trait_ = &item.trait_;
-    if at_generics(&ParseBuffer::new(behind)) {
+    if at_generics(&ParseBuffer::new(following)) {
         return Ok(true);
     }
     match trait_ {
@@ -241,12 +241,12 @@ fn print_after_impl(item: &ItemImpl, out: &mut StreamBuilder) -> Result<(), Allo
         item.generics.print_params(out)?;
         return print_after_generics(item, out);
     }
-    let behind = tokens_after_generics(item, out.alloc())?;
-    if is_led(item, &behind, out.alloc())? {
+    let following = tokens_after_generics(item, out.alloc())?;
+    if is_led(item, &following, out.alloc())? {
         Lt::new([Span::call_site()]).print_in(out)?;
         Gt::new([Span::call_site()]).print_in(out)?;
     }
-    out.append(&behind)
+    out.append(&following)
 }
 
 /// `default`, `const` and `unsafe` are before `impl`, and the where clause before the braces.

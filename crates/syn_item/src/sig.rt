@@ -10,7 +10,7 @@ ghost use Rattle.syn_tokens.specs.Listing.{list_of};
 ghost use Rattle.syn_lower.specs.Generics.{clause_of};
 ghost use Rattle.syn_lower.specs.Parts.{group_syntax};
 ghost use Rattle.syn_lower.specs.Paths.{syntax_of_ReturnType};
-ghost use Rattle.syn_item.specs.Signatures.{comma_behind, last_comma, parameters_of, received, receiver_as, receiver_in, syntax_of_FnArg, syntax_of_ReceiverKind};
+ghost use Rattle.syn_item.specs.Signatures.{comma_after, last_comma, parameters_of, received, receiver_as, receiver_in, syntax_of_FnArg, syntax_of_ReceiverKind};
 
 mod parameters;
 mod parsing;
@@ -153,7 +153,7 @@ fn print_before_variadic(
     inputs: &Punctuated<FnArg, Comma>,
     out: &mut StreamBuilder,
 ) -> Result<(), AllocError>
-    ensures prints { OnOk result (out.new ≡ added out.old (print (comma_behind (list_of syntax_of_FnArg comma_syntax inputs.now.pairs inputs.now.last)))) }
+    ensures prints { OnOk result (out.new ≡ added out.old (print (comma_after (list_of syntax_of_FnArg comma_syntax inputs.now.pairs inputs.now.last)))) }
     ensures begins { out.new.before ≡ out.old.before }
 {
     print_list(inputs, out)?;

@@ -7,11 +7,11 @@ use Rattle.syn_grammar.specs.Same.{same_stream, same_syntax}
 use Rattle.syn_grammar.specs.Run.{marks_of}
 use Rattle.syn_tokens.specs.InOrder.{in_order}
 use Rattle.syn_tokens.specs.Kinds.{Eq, eq_syntax}
-use Rattle.syn_lower.specs.Attributes.{no_value, after_equals, filled, syntax_of_MacroDelimiter, syntax_of_AttrStyle, behind_pound, syntax_of_Attribute, is_outer, every_outer, outer_before, outer_listed, attributes_syntax, all_attributes_syntax, outer_part, outer_row, all_row}
+use Rattle.syn_lower.specs.Attributes.{no_value, after_equals, filled, syntax_of_MacroDelimiter, syntax_of_AttrStyle, after_pound, syntax_of_Attribute, is_outer, every_outer, outer_before, outer_listed, attributes_syntax, all_attributes_syntax, outer_part, outer_row, all_row}
 use Rattle.syn_lower.specs.declared.attr.MacroDelimiter.TheVariants as MacroDelimiter-m
 use Rattle.syn_lower.specs.declared.attr.AttrStyle.TheVariants as AttrStyle-m
 use Rattle.syn_lower.specs.declared.attr.Attribute.{Attribute}
-use Rattle.syn_lower.proofs.Compared.{told}
+use Rattle.syn_lower.proofs.Compared.{reported}
 
 -- METAS
 
@@ -59,13 +59,13 @@ print_after_equals e i = spell_before (marks_of (eq_syntax e)) i
 -- STYLES
 
 pub same_after_pound : (s t : AttrStyle-m.the_data) (o c p d : Span) (x y : Syntax) →
-    same_syntax (behind_pound (syntax_of_AttrStyle s) (Group Bracket o c x)) (behind_pound (syntax_of_AttrStyle t) (Group Bracket p d y)) ≡ and (same_syntax (syntax_of_AttrStyle s) (syntax_of_AttrStyle t)) (same_syntax x y)
+    same_syntax (after_pound (syntax_of_AttrStyle s) (Group Bracket o c x)) (after_pound (syntax_of_AttrStyle t) (Group Bracket p d y)) ≡ and (same_syntax (syntax_of_AttrStyle s) (syntax_of_AttrStyle t)) (same_syntax x y)
 same_after_pound AttrStyle-m.Outer AttrStyle-m.Outer o c p d x y = refl
 same_after_pound AttrStyle-m.Outer (AttrStyle-m.Inner m) o c p d x y = refl
 same_after_pound (AttrStyle-m.Inner n) AttrStyle-m.Outer o c p d x y = refl
 same_after_pound (AttrStyle-m.Inner n) (AttrStyle-m.Inner m) o c p d x y = refl
 
-pub print_after_pound : (s : AttrStyle-m.the_data) (g : Syntax) → print (behind_pound (syntax_of_AttrStyle s) g) ≡ print (syntax_of_AttrStyle s) ⧺ print g
+pub print_after_pound : (s : AttrStyle-m.the_data) (g : Syntax) → print (after_pound (syntax_of_AttrStyle s) g) ≡ print (syntax_of_AttrStyle s) ⧺ print g
 print_after_pound AttrStyle-m.Outer g = refl
 print_after_pound (AttrStyle-m.Inner n) g = refl
 
@@ -161,7 +161,7 @@ known_list (a ∷ l) = go (every_outer chain) refl
 
 -- attributes are compared one by one
 pub same_attributes : (l m : List Attribute) → same_syntax (attributes_syntax l) (attributes_syntax m) ≡ same_syntax (in_order syntax_of_Attribute l) (in_order syntax_of_Attribute m)
-same_attributes l m = told outer_listed parts_of_list _ _ (all l) (all m) (plain_listed l) (plain_listed m) (ap parts_of_list (plain_listed l) ∙ known_list l) (ap parts_of_list (plain_listed m) ∙ known_list m)
+same_attributes l m = reported outer_listed parts_of_list _ _ (all l) (all m) (plain_listed l) (plain_listed m) (ap parts_of_list (plain_listed l) ∙ known_list l) (ap parts_of_list (plain_listed m) ∙ known_list m)
 
 print_before : (u : Syntax) (l : List Attribute) → print (outer_before u (all l)) ≡ outer_row l
 print_before u [] = refl

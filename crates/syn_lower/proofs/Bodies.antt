@@ -10,7 +10,7 @@ use Rattle.syn_lower.specs.Attributes.{attributes_syntax, every, inner_attribute
 use Rattle.syn_lower.specs.declared.attr.AttrStyle.TheVariants as AttrStyle-m
 use Rattle.syn_lower.specs.declared.attr.Attribute.{Attribute}
 use Rattle.syn_lower.proofs.Attributes.{print_outer_listed}
-use Rattle.syn_lower.proofs.Compared.{told}
+use Rattle.syn_lower.proofs.Compared.{reported}
 use Rattle.syn_lower.specs.Bodies.{attributes_before_body, attributes_in_body, inner_part, inner_row, listed_before, listed_inside, outer_first}
 
 abbrev all : List Attribute → Syntax
@@ -219,7 +219,7 @@ known_places (a ∷ l) = go (outer_first chain) refl
 
 same_places : (l m : List Attribute) →
     and (same_syntax (attributes_before_body l) (attributes_before_body m)) (same_syntax (attributes_in_body l) (attributes_in_body m)) ≡ same_syntax (in_order syntax_of_Attribute l) (in_order syntax_of_Attribute m)
-same_places l m = told in_places of_places (in_places (all l)) (in_places (all m)) (all l) (all m) (plain_places l) (plain_places m) (ap of_places (plain_places l) ∙ known_places l) (ap of_places (plain_places m) ∙ known_places m)
+same_places l m = reported in_places of_places (in_places (all l)) (in_places (all m)) (all l) (all m) (plain_places l) (plain_places m) (ap of_places (plain_places l) ∙ known_places l) (ap of_places (plain_places m) ∙ known_places m)
 
 -- so many parts between those before a body and the body
 across : (b x i y : Bool) → and b (and x (and i y)) ≡ and (and b i) (and x y)

@@ -13,8 +13,8 @@ alike false true to from = from refl
 alike false false to from = refl
 
 -- trees that determine their parts, and are determined by them, are the same if the parts are
-pub told : (form parts : Syntax → Syntax) (u v s t : Syntax) → plain_syntax u ≡ form (plain_syntax s) → plain_syntax v ≡ form (plain_syntax t)
+pub reported : (form parts : Syntax → Syntax) (u v s t : Syntax) → plain_syntax u ≡ form (plain_syntax s) → plain_syntax v ≡ form (plain_syntax t)
     → parts (plain_syntax u) ≡ plain_syntax s → parts (plain_syntax v) ≡ plain_syntax t → same_syntax u v ≡ same_syntax s t
-told form parts u v s t p q i j = alike (same_syntax u v) (same_syntax s t)
+reported form parts u v s t p q i j = alike (same_syntax u v) (same_syntax s t)
     (λ h. (same_syntax_plain s t).1 (sym i ∙ ap parts ((same_syntax_plain u v).0 h) ∙ j))
     (λ h. (same_syntax_plain u v).1 (p ∙ ap form ((same_syntax_plain s t).0 h) ∙ sym q))

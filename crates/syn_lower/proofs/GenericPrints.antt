@@ -11,7 +11,7 @@ use Rattle.syn_tokens.specs.Listing.{list_of}
 use Rattle.syn_tokens.specs.Lists.{Sequence, nothing_listed}
 use Rattle.syn_tokens.specs.declared.span.Span.{Span}
 use Rattle.syn_lower.specs.Parts.{or_added}
-use Rattle.syn_lower.specs.Bounds.{behind_colon, solid, turned}
+use Rattle.syn_lower.specs.Bounds.{after_colon, solid, turned}
 use Rattle.syn_lower.specs.Generics.{default_of}
 use Rattle.syn_lower.specs.GenericPrints.{printed_with}
 
@@ -63,10 +63,10 @@ module _ (first others : Syntax) where
       go true = refl
       go false = refl
 
-  pub after_solid : (c : Option Colon) → behind_colon (maybe colon_syntax c) (solid members) ≡ Left (Both (or_added colon (maybe colon_syntax c)) (solid members))
-  after_solid c = ap (behind_colon (maybe colon_syntax c)) solid_is ∙ go c (bare members) ∙ ap (λ z. Left (Both (or_added colon (maybe colon_syntax c)) z)) (sym solid_is)
+  pub after_solid : (c : Option Colon) → after_colon (maybe colon_syntax c) (solid members) ≡ Left (Both (or_added colon (maybe colon_syntax c)) (solid members))
+  after_solid c = ap (after_colon (maybe colon_syntax c)) solid_is ∙ go c (bare members) ∙ ap (λ z. Left (Both (or_added colon (maybe colon_syntax c)) z)) (sym solid_is)
     where
-      go : (c : Option Colon) (b : Bool) → behind_colon (maybe colon_syntax c) (pick b (Both (Added []) members) members) ≡ Left (Both (or_added colon (maybe colon_syntax c)) (pick b (Both (Added []) members) members))
+      go : (c : Option Colon) (b : Bool) → after_colon (maybe colon_syntax c) (pick b (Both (Added []) members) members) ≡ Left (Both (or_added colon (maybe colon_syntax c)) (pick b (Both (Added []) members) members))
       go (Some m) true = refl
       go (Some m) false = refl
       go None true = refl
@@ -89,8 +89,8 @@ no_bounds m s h k = go m.spans
 
 module _ {T : Type 0} (v : T → Syntax) where
   pub print_bounds : (c : Option Colon) (l : List (T × Plus)) (o : Option T) →
-      print (Vanishing false (behind_colon (maybe colon_syntax c) (solid (list_of v plus_syntax l o)))) ≡ printed_with (or_added colon (maybe colon_syntax c)) v plus_syntax l o
-  print_bounds None [] None = ap (λ z. print (Vanishing false (behind_colon (Right Nothing) z))) solid_none
+      print (Vanishing false (after_colon (maybe colon_syntax c) (solid (list_of v plus_syntax l o)))) ≡ printed_with (or_added colon (maybe colon_syntax c)) v plus_syntax l o
+  print_bounds None [] None = ap (λ z. print (Vanishing false (after_colon (Right Nothing) z))) solid_none
   print_bounds (Some m) [] None = ap (λ z. print (Vanishing false (Left (Both (colon_syntax m) z)))) solid_none ∙ no_bounds m (Node (Left Nothing)) refl refl
   print_bounds c [] (Some t) = ap (λ z. print (Vanishing false z)) (after_solid (v t) (Right Nothing) c) ∙ shown_solid (v t) (Right Nothing) (or_added colon (maybe colon_syntax c))
   print_bounds c (x ∷ l) o =

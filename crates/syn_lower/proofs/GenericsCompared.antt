@@ -15,10 +15,10 @@ use Rattle.syn_tokens.specs.Leaves.{maybe, placed}
 use Rattle.syn_tokens.specs.Listing.{list_of}
 use Rattle.syn_tokens.specs.declared.span.Span.{Span as TokenSpan}
 use Rattle.syn_lower.specs.Parts.{or_added}
-use Rattle.syn_lower.specs.Bounds.{behind_colon, solid, turned}
-use Rattle.syn_lower.specs.Generics.{GtPresent, LtPresent, as_row, clause_aside, default_of, is_written, no_parameters, param_of, parameters_of, sign_of, stands, syntax_of_GenericParam}
+use Rattle.syn_lower.specs.Bounds.{after_colon, solid, turned}
+use Rattle.syn_lower.specs.Generics.{GtPresent, LtPresent, as_row, clause_aside, default_of, is_written, no_parameters, param_of, parameters_of, sign_of, present, syntax_of_GenericParam}
 use Rattle.syn_lower.specs.declared.generics.GenericParam.TheVariants as GenericParam-m
-use Rattle.syn_lower.proofs.Compared.{told}
+use Rattle.syn_lower.proofs.Compared.{reported}
 use Rattle.syn_lower.proofs.GenericPrints.{after_solid}
 
 -- LISTS
@@ -68,7 +68,7 @@ solid_none = refl
 -- two solid lists with members
 same_solid_members : (s t : Syntax) → same_syntax (solid (Node (Right s))) (solid (Node (Right t))) ≡ same_syntax s t
 same_solid_members s t =
-    told solid inside (solid (Node (Right s))) (solid (Node (Right t))) (Node (Right s)) (Node (Right t)) (plain_solid s) (plain_solid t)
+    reported solid inside (solid (Node (Right s))) (solid (Node (Right t))) (Node (Right s)) (Node (Right t)) (plain_solid s) (plain_solid t)
     (ap (λ z. inside (plain_syntax z)) (solid_is s) ∙ inside_made s (bare s)) (ap (λ z. inside (plain_syntax z)) (solid_is t) ∙ inside_made t (bare t))
 
 -- one with members, and one without
@@ -107,16 +107,16 @@ module _ {T P : Type 0} (v : T → Syntax) (w : P → Syntax) where
 -- A COLON AND BOUNDS
 
 -- bounds that are no empty list
-abbrev Stand : Syntax → Type 0
-Stand s = (c : Option Colon) → behind_colon (maybe colon_syntax c) s ≡ Left (Both (or_added colon (maybe colon_syntax c)) s)
+abbrev Present : Syntax → Type 0
+Present s = (c : Option Colon) → after_colon (maybe colon_syntax c) s ≡ Left (Both (or_added colon (maybe colon_syntax c)) s)
 
 abbrev both_colons : Option Colon → Option Colon → Bool
 both_colons c d = same_syntax (maybe colon_syntax c) (maybe colon_syntax d)
 
 abbrev same_parts : Option Colon → Syntax → Option Colon → Syntax → Bool
-same_parts c s d t = same_syntax (behind_colon (maybe colon_syntax c) s) (behind_colon (maybe colon_syntax d) t)
+same_parts c s d t = same_syntax (after_colon (maybe colon_syntax c) s) (after_colon (maybe colon_syntax d) t)
 
-some_some : (s t : Syntax) → Stand s → Stand t → (c d : Option Colon) → same_parts c s d t ≡ and (both_colons c d) (same_syntax s t)
+some_some : (s t : Syntax) → Present s → Present t → (c d : Option Colon) → same_parts c s d t ≡ and (both_colons c d) (same_syntax s t)
 some_some s t h k c d = ap₂ same_syntax (h c) (k d) ∙ go c d
   where
     go : (c d : Option Colon) → same_syntax (Left (Both (or_added colon (maybe colon_syntax c)) s)) (Left (Both (or_added colon (maybe colon_syntax d)) t)) ≡ and (both_colons c d) (same_syntax s t)
@@ -126,24 +126,24 @@ some_some s t h k c d = ap₂ same_syntax (h c) (k d) ∙ go c d
     go (Some m) (Some n) = refl
 
 -- of the empty list
-module _ (none : Syntax) (absent : behind_colon (Right Nothing) none ≡ Right Nothing) where
+module _ (none : Syntax) (absent : after_colon (Right Nothing) none ≡ Right Nothing) where
   none_none : (c d : Option Colon) → same_parts c none d none ≡ and (both_colons c d) (same_syntax none none)
   none_none None None = ap₂ same_syntax absent absent ∙ sym (same_syntax_refl none)
   none_none None (Some n) = ap (λ z. same_syntax z (Left (Both (colon_syntax n) none))) absent
   none_none (Some m) None = ap (same_syntax (Left (Both (colon_syntax m) none))) absent
   none_none (Some m) (Some n) = refl
 
-  none_some : (s : Syntax) → Stand s → same_syntax none s ≡ false → (c d : Option Colon) → same_parts c none d s ≡ and (both_colons c d) (same_syntax none s)
-  none_some s h e c d = ap (same_syntax (behind_colon (maybe colon_syntax c) none)) (h d) ∙ go c ∙ sym (ap (and (both_colons c d)) e ∙ and_false (both_colons c d))
+  none_some : (s : Syntax) → Present s → same_syntax none s ≡ false → (c d : Option Colon) → same_parts c none d s ≡ and (both_colons c d) (same_syntax none s)
+  none_some s h e c d = ap (same_syntax (after_colon (maybe colon_syntax c) none)) (h d) ∙ go c ∙ sym (ap (and (both_colons c d)) e ∙ and_false (both_colons c d))
     where
-      go : (c : Option Colon) → same_syntax (behind_colon (maybe colon_syntax c) none) (Left (Both (or_added colon (maybe colon_syntax d)) s)) ≡ false
+      go : (c : Option Colon) → same_syntax (after_colon (maybe colon_syntax c) none) (Left (Both (or_added colon (maybe colon_syntax d)) s)) ≡ false
       go None = ap (λ z. same_syntax z (Left (Both (or_added colon (maybe colon_syntax d)) s))) absent
       go (Some m) = ap (and (same_syntax (colon_syntax m) (or_added colon (maybe colon_syntax d)))) e ∙ and_false (same_syntax (colon_syntax m) (or_added colon (maybe colon_syntax d)))
 
-  some_none : (s : Syntax) → Stand s → same_syntax s none ≡ false → (c d : Option Colon) → same_parts c s d none ≡ and (both_colons c d) (same_syntax s none)
-  some_none s h e c d = ap (λ z. same_syntax z (behind_colon (maybe colon_syntax d) none)) (h c) ∙ go d ∙ sym (ap (and (both_colons c d)) e ∙ and_false (both_colons c d))
+  some_none : (s : Syntax) → Present s → same_syntax s none ≡ false → (c d : Option Colon) → same_parts c s d none ≡ and (both_colons c d) (same_syntax s none)
+  some_none s h e c d = ap (λ z. same_syntax z (after_colon (maybe colon_syntax d) none)) (h c) ∙ go d ∙ sym (ap (and (both_colons c d)) e ∙ and_false (both_colons c d))
     where
-      go : (d : Option Colon) → same_syntax (Left (Both (or_added colon (maybe colon_syntax c)) s)) (behind_colon (maybe colon_syntax d) none) ≡ false
+      go : (d : Option Colon) → same_syntax (Left (Both (or_added colon (maybe colon_syntax c)) s)) (after_colon (maybe colon_syntax d) none) ≡ false
       go None = ap (same_syntax (Left (Both (or_added colon (maybe colon_syntax c)) s))) absent
       go (Some m) = ap (and (same_syntax (or_added colon (maybe colon_syntax c)) (colon_syntax m))) e ∙ and_false (same_syntax (or_added colon (maybe colon_syntax c)) (colon_syntax m))
 
@@ -152,25 +152,25 @@ module _ {T : Type 0} (v : T → Syntax) where
   abbrev listing : List (T × Plus) → Option T → Syntax
   listing l o = solid (list_of v plus_syntax l o)
 
-  none_absent : behind_colon (Right Nothing) (listing [] None) ≡ Right Nothing
-  none_absent = ap (behind_colon (Right Nothing)) solid_none
+  none_absent : after_colon (Right Nothing) (listing [] None) ≡ Right Nothing
+  none_absent = ap (after_colon (Right Nothing)) solid_none
 
-  one_stands : (t : T) → Stand (listing [] (Some t))
-  one_stands t = after_solid (v t) (Right Nothing)
+  one_present : (t : T) → Present (listing [] (Some t))
+  one_present t = after_solid (v t) (Right Nothing)
 
-  more_stand : (x : T × Plus) (l : List (T × Plus)) (o : Option T) → Stand (listing (x ∷ l) o)
-  more_stand x l o = after_solid (v x.0) (Left (Both (plus_syntax x.1) (list_of v plus_syntax l o)))
+  more_present : (x : T × Plus) (l : List (T × Plus)) (o : Option T) → Present (listing (x ∷ l) o)
+  more_present x l o = after_solid (v x.0) (Left (Both (plus_syntax x.1) (list_of v plus_syntax l o)))
 
   after_same : (c d : Option Colon) (l m : List (T × Plus)) (o q : Option T) → same_parts c (listing l o) d (listing m q) ≡ and (both_colons c d) (same_syntax (listing l o) (listing m q))
   after_same c d [] [] None None = none_none (listing [] None) none_absent c d
-  after_same c d [] [] None (Some u) = none_some (listing [] None) none_absent (listing [] (Some u)) (one_stands u) (same_solid v plus_syntax [] [] None (Some u)) c d
-  after_same c d [] [] (Some t) None = some_none (listing [] None) none_absent (listing [] (Some t)) (one_stands t) (same_solid v plus_syntax [] [] (Some t) None) c d
-  after_same c d [] [] (Some t) (Some u) = some_some (listing [] (Some t)) (listing [] (Some u)) (one_stands t) (one_stands u) c d
-  after_same c d [] (y ∷ m) None q = none_some (listing [] None) none_absent (listing (y ∷ m) q) (more_stand y m q) (same_solid v plus_syntax [] (y ∷ m) None q) c d
-  after_same c d [] (y ∷ m) (Some t) q = some_some (listing [] (Some t)) (listing (y ∷ m) q) (one_stands t) (more_stand y m q) c d
-  after_same c d (x ∷ l) [] o None = some_none (listing [] None) none_absent (listing (x ∷ l) o) (more_stand x l o) (same_solid v plus_syntax (x ∷ l) [] o None) c d
-  after_same c d (x ∷ l) [] o (Some u) = some_some (listing (x ∷ l) o) (listing [] (Some u)) (more_stand x l o) (one_stands u) c d
-  after_same c d (x ∷ l) (y ∷ m) o q = some_some (listing (x ∷ l) o) (listing (y ∷ m) q) (more_stand x l o) (more_stand y m q) c d
+  after_same c d [] [] None (Some u) = none_some (listing [] None) none_absent (listing [] (Some u)) (one_present u) (same_solid v plus_syntax [] [] None (Some u)) c d
+  after_same c d [] [] (Some t) None = some_none (listing [] None) none_absent (listing [] (Some t)) (one_present t) (same_solid v plus_syntax [] [] (Some t) None) c d
+  after_same c d [] [] (Some t) (Some u) = some_some (listing [] (Some t)) (listing [] (Some u)) (one_present t) (one_present u) c d
+  after_same c d [] (y ∷ m) None q = none_some (listing [] None) none_absent (listing (y ∷ m) q) (more_present y m q) (same_solid v plus_syntax [] (y ∷ m) None q) c d
+  after_same c d [] (y ∷ m) (Some t) q = some_some (listing [] (Some t)) (listing (y ∷ m) q) (one_present t) (more_present y m q) c d
+  after_same c d (x ∷ l) [] o None = some_none (listing [] None) none_absent (listing (x ∷ l) o) (more_present x l o) (same_solid v plus_syntax (x ∷ l) [] o None) c d
+  after_same c d (x ∷ l) [] o (Some u) = some_some (listing (x ∷ l) o) (listing [] (Some u)) (more_present x l o) (one_present u) c d
+  after_same c d (x ∷ l) (y ∷ m) o q = some_some (listing (x ∷ l) o) (listing (y ∷ m) q) (more_present x l o) (more_present y m q) c d
 
   pub same_bounds : (c d : Option Colon) (l m : List (T × Plus)) (o q : Option T) → same_parts c (listing l o) d (listing m q) ≡ and (both_colons c d) (same_syntax (list_of v plus_syntax l o) (list_of v plus_syntax m q))
   same_bounds c d l m o q = after_same c d l m o q ∙ ap (and (both_colons c d)) (same_solid v plus_syntax l m o q)
@@ -180,11 +180,11 @@ module _ {T : Type 0} (v : T → Syntax) where
   abbrev outlived : List (T × Plus) → Option T → Syntax
   outlived l o = turned (list_of v plus_syntax l o)
 
-  one_outlives : (t : T) → Stand (outlived [] (Some t))
+  one_outlives : (t : T) → Present (outlived [] (Some t))
   one_outlives t None = refl
   one_outlives t (Some m) = refl
 
-  more_outlive : (x : T × Plus) (l : List (T × Plus)) (o : Option T) → Stand (outlived (x ∷ l) o)
+  more_outlive : (x : T × Plus) (l : List (T × Plus)) (o : Option T) → Present (outlived (x ∷ l) o)
   more_outlive x l o None = refl
   more_outlive x l o (Some m) = refl
 
@@ -333,13 +333,13 @@ alike c [] r h k = absurd (cc h)
 alike c (x ∷ l) [] h k = absurd (cc k)
 alike c (x ∷ l) (y ∷ r) h k = ap (λ b. and b true) (eq-eqb c c refl)
 
-same_lt : (a b : Option Lt) → LtPresent a → LtPresent b → same_mark (sign_of (maybe lt_syntax a)) (sign_of (maybe lt_syntax b)) ≡ same_bool (stands a) (stands b)
+same_lt : (a b : Option Lt) → LtPresent a → LtPresent b → same_mark (sign_of (maybe lt_syntax a)) (sign_of (maybe lt_syntax b)) ≡ same_bool (present a) (present b)
 same_lt None None h k = refl
 same_lt None (Some n) h k = unlike_none 60 n.spans k
 same_lt (Some m) None h k = none_unlike 60 m.spans h
 same_lt (Some m) (Some n) h k = alike 60 m.spans n.spans h k
 
-same_gt : (a b : Option Gt) → GtPresent a → GtPresent b → same_mark (sign_of (maybe gt_syntax a)) (sign_of (maybe gt_syntax b)) ≡ same_bool (stands a) (stands b)
+same_gt : (a b : Option Gt) → GtPresent a → GtPresent b → same_mark (sign_of (maybe gt_syntax a)) (sign_of (maybe gt_syntax b)) ≡ same_bool (present a) (present b)
 same_gt None None h k = refl
 same_gt None (Some n) h k = unlike_none 62 n.spans k
 same_gt (Some m) None h k = none_unlike 62 m.spans h
@@ -355,15 +355,15 @@ in_signs a l o c = Node (Vanishing false (Left (Order (sign_of (maybe lt_syntax 
 
 -- they are like none at all
 abbrev like_none : Option Lt → List (Param × Comma) → Option Param → Option Gt → Bool
-like_none a l o c = and (same_bool false (stands a)) (and (same_bool false (stands c)) (same_syntax Done (one_row l o)))
+like_none a l o c = and (same_bool false (present a)) (and (same_bool false (present c)) (same_syntax Done (one_row l o)))
 
 abbrev none_like : Option Lt → List (Param × Comma) → Option Param → Option Gt → Bool
-none_like a l o c = and (same_bool (stands a) false) (and (same_bool (stands c) false) (same_syntax (one_row l o) Done))
+none_like a l o c = and (same_bool (present a) false) (and (same_bool (present c) false) (same_syntax (one_row l o) Done))
 
 -- there is neither a sign nor a parameter; or there is something
 abbrev Shape : Option Lt → List (Param × Comma) → Option Param → Option Gt → Type 0
 Shape a l o c =
-    ((whole a l o c ≡ no_parameters) × (stands a ≡ false) × (stands c ≡ false) × (one_row l o ≡ Done))
+    ((whole a l o c ≡ no_parameters) × (present a ≡ false) × (present c ≡ false) × (one_row l o ≡ Done))
     ⊎ ((whole a l o c ≡ in_signs a l o c) × (like_none a l o c ≡ false) × (none_like a l o c ≡ false))
 
 no_row : (b d r : Bool) → r ≡ false → and b (and d r) ≡ false
@@ -373,31 +373,31 @@ shape : (a : Option Lt) (l : List (Param × Comma)) (o : Option Param) (c : Opti
 shape (Some m) l o c = inr (refl, refl, refl)
 shape None [] None None = inl (refl, refl, refl, refl)
 shape None [] None (Some n) = inr (refl, refl, refl)
-shape None [] (Some p) c = inr (refl, no_row true (same_bool false (stands c)) _ (none_last p), no_row true (same_bool (stands c) false) _ (last_none p))
-shape None (x ∷ l) o c = inr (refl, no_row true (same_bool false (stands c)) _ (none_more x.0 (span_of (comma_syntax x.1)) (one_row l o)), no_row true (same_bool (stands c) false) _ (more_none x.0 (span_of (comma_syntax x.1)) (one_row l o)))
+shape None [] (Some p) c = inr (refl, no_row true (same_bool false (present c)) _ (none_last p), no_row true (same_bool (present c) false) _ (last_none p))
+shape None (x ∷ l) o c = inr (refl, no_row true (same_bool false (present c)) _ (none_more x.0 (span_of (comma_syntax x.1)) (one_row l o)), no_row true (same_bool (present c) false) _ (more_none x.0 (span_of (comma_syntax x.1)) (one_row l o)))
 
 swap : (x y z : Bool) → and x (and z y) ≡ and x (and y z)
 swap x true z = ap (and x) (and_true z)
 swap x false z = ap (and x) (and_false z)
 
 pub same_parameters : (a b : Option Lt) (l m : List (Param × Comma)) (o q : Option Param) (c d : Option Gt) → LtPresent a → LtPresent b → GtPresent c → GtPresent d →
-    same_syntax (whole a l o c) (whole b m q d) ≡ and (same_bool (stands a) (stands b)) (and (same_bool (stands c) (stands d)) (same_syntax (one_row l o) (one_row m q)))
+    same_syntax (whole a l o c) (whole b m q d) ≡ and (same_bool (present a) (present b)) (and (same_bool (present c) (present d)) (same_syntax (one_row l o) (one_row m q)))
 same_parameters a b l m o q c d ha hb hc hd = go (shape a l o c) (shape b m q d)
   where
     both : Bool
-    both = and (same_bool (stands a) (stands b)) (and (same_bool (stands c) (stands d)) (same_syntax (one_row l o) (one_row m q)))
+    both = and (same_bool (present a) (present b)) (and (same_bool (present c) (present d)) (same_syntax (one_row l o) (one_row m q)))
 
     go : Shape a l o c → Shape b m q d → same_syntax (whole a l o c) (whole b m q d) ≡ both
     go (inl (x, xa, xc, xl)) (inl (y, yb, yd, ym)) =
         ap₂ same_syntax x y ∙ sym (ap₂ (λ s t. and s t) (ap₂ same_bool xa yb) (ap₂ (λ s t. and s t) (ap₂ same_bool xc yd) (ap₂ same_syntax xl ym)))
     go (inl (x, xa, xc, xl)) (inr (y, yn, yt)) =
-        ap₂ same_syntax x y ∙ sym yn ∙ sym (ap₂ (λ s t. and s t) (ap (λ s. same_bool s (stands b)) xa) (ap₂ (λ s t. and s t) (ap (λ s. same_bool s (stands d)) xc) (ap (λ s. same_syntax s (one_row m q)) xl)))
+        ap₂ same_syntax x y ∙ sym yn ∙ sym (ap₂ (λ s t. and s t) (ap (λ s. same_bool s (present b)) xa) (ap₂ (λ s t. and s t) (ap (λ s. same_bool s (present d)) xc) (ap (λ s. same_syntax s (one_row m q)) xl)))
     go (inr (x, xn, xt)) (inl (y, yb, yd, ym)) =
-        ap₂ same_syntax x y ∙ sym xt ∙ sym (ap₂ (λ s t. and s t) (ap (same_bool (stands a)) yb) (ap₂ (λ s t. and s t) (ap (same_bool (stands c)) yd) (ap (same_syntax (one_row l o)) ym)))
+        ap₂ same_syntax x y ∙ sym xt ∙ sym (ap₂ (λ s t. and s t) (ap (same_bool (present a)) yb) (ap₂ (λ s t. and s t) (ap (same_bool (present c)) yd) (ap (same_syntax (one_row l o)) ym)))
     go (inr (x, xn, xt)) (inr (y, yn, yt)) =
         ap₂ same_syntax x y
         ∙ ap₂ (λ s t. and s (and (same_syntax (one_row l o) (one_row m q)) t)) (same_lt a b ha hb) (same_gt c d hc hd)
-        ∙ swap (same_bool (stands a) (stands b)) (same_bool (stands c) (stands d)) (same_syntax (one_row l o) (one_row m q))
+        ∙ swap (same_bool (present a) (present b)) (same_bool (present c) (present d)) (same_syntax (one_row l o) (one_row m q))
 
 -- A WHERE CLAUSE ASIDE
 pub same_aside : (c d : Option Syntax) → same_syntax (clause_aside (maybe itself c)) (clause_aside (maybe itself d)) ≡ same_syntax (maybe itself c) (maybe itself d)

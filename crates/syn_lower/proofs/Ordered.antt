@@ -4,7 +4,7 @@ use Rattle.std.proofs.lemmas.List.{at_drop_more, drop_all}
 use Rattle.std.specs.List.{list_any}
 use Rattle.std.specs.Prelude.{not}
 use Rattle.syn_grammar.specs.Tokens.{Span, call_site, Stream, end, punct, ◌⧺◌, pick, and}
-use Rattle.syn_grammar.specs.Grammar.{Syntax, Done, Last, More, Order, print, show, renew, sort, behind, spell}
+use Rattle.syn_grammar.specs.Grammar.{Syntax, Done, Last, More, Order, print, show, renew, sort, following, spell}
 use Rattle.syn_grammar.specs.Same.{same_bool}
 use Rattle.syn_grammar.proofs.Streams.{append_end, append_append, append_spell}
 use Rattle.syn_tokens.specs.Listing.{list_of}
@@ -17,7 +17,7 @@ put z (More true s sp t) = More true s sp (put z t)
 put z (Last true s) = More true s call_site (z Done)
 put z t = z t
 
-after_put : (s : Syntax) (sp : Span) (t : Syntax) → behind s sp t ≡ put (More false s sp) t
+after_put : (s : Syntax) (sp : Span) (t : Syntax) → following s sp t ≡ put (More false s sp) t
 unfolding put
 after_put s sp (More true x q u) = ap (More true x q) (after_put s sp u)
 after_put s sp (Last true x) = refl

@@ -2,7 +2,7 @@
 use Rattle.std.proofs.Common.{◌≡◌, arith, ℕ, ◌+◌, ◌<◌, ◌≤◌, Bool, true, false, List, [], ◌∷◌, length, drop, get_or, Option, Some, None, refl, sym, ap, ap₂, ◌∙◌}
 use Rattle.std.proofs.lemmas.List.{at_drop_more, drop_all}
 use Rattle.syn_grammar.specs.Tokens.{Span, Stream, call_site, end, punct, pick, no, or, ◌⧺◌}
-use Rattle.syn_grammar.specs.Grammar.{Syntax, Nothing, Both, Left, Right, Node, Vanishing, Done, Last, More, Order, bare, behind, print, renew, show, sort, spell}
+use Rattle.syn_grammar.specs.Grammar.{Syntax, Nothing, Both, Left, Right, Node, Vanishing, Done, Last, More, Order, bare, following, print, renew, show, sort, spell}
 use Rattle.syn_grammar.specs.Promises.{itself}
 use Rattle.syn_grammar.specs.Run.{last, more, span_of}
 use Rattle.syn_grammar.proofs.Streams.{append_append, append_end}
@@ -41,7 +41,7 @@ lead_tail (More false s sp t) = refl
 lead_tail (Last false s) = refl
 lead_tail _ = refl
 
-lead_after : (c : Stream) (s : Syntax) (sp : Span) (t : Syntax) → lead c (behind s sp t) ≡ lead added_comma t
+lead_after : (c : Stream) (s : Syntax) (sp : Span) (t : Syntax) → lead c (following s sp t) ≡ lead added_comma t
 unfolding lead
 lead_after c s sp (More true x q u) = ap (λ z. show x ⧺ punct 44 false q z) (lead_after c s sp u)
 lead_after c s sp (Last true x) = refl
@@ -49,7 +49,7 @@ lead_after c s sp (More false x q u) = refl
 lead_after c s sp (Last false x) = refl
 lead_after c s sp _ = refl
 
-tail_after : (s : Syntax) (sp : Span) (t : Syntax) → tail (behind s sp t) ≡ show s ⧺ punct 44 false sp (tail t)
+tail_after : (s : Syntax) (sp : Span) (t : Syntax) → tail (following s sp t) ≡ show s ⧺ punct 44 false sp (tail t)
 unfolding tail
 tail_after s sp (More true x q u) = tail_after s sp u
 tail_after s sp (Last true x) = refl
@@ -130,8 +130,8 @@ row_others ((GenericParam-m.Const p, c) ∷ l) o = refl
 
 -- the last parameter, in each pass
 abbrev last_part : Bool → Stream → Option Param → Stream
-last_part lifetimes behind None = end
-last_part lifetimes behind (Some p) = param_part lifetimes p behind
+last_part lifetimes following None = end
+last_part lifetimes following (Some p) = param_part lifetimes p following
 
 row_firsts : (c : Stream) (l : List (Param × Comma)) (o : Option Param) → firsts c (row l o) ≡ pairs_part true l ⧺ last_part true c o
 row_firsts c [] None = refl

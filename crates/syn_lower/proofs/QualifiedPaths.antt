@@ -37,10 +37,10 @@ module _ {T P : Type 0} (v : T → Syntax) (w : P → Syntax) (gt : Stream) wher
   unfolding word_part
   more_inside n t h = ap (λ b. print (v t) ⧺ pick b gt end) (several n h) ∙ append_end (print (v t))
 
-  row_behind : (l : List (T × P)) (o : Option T) → words_row v w gt 0 l o ≡ row v w l o
-  row_behind [] None = refl
-  row_behind [] (Some t) = none_inside t
-  row_behind (x ∷ l) o = ap (λ s. s ⧺ (print (w x.1) ⧺ words_row v w gt 0 l o)) (none_inside x.0) ∙ ap (λ s. print (v x.0) ⧺ (print (w x.1) ⧺ s)) (row_behind l o)
+  row_following : (l : List (T × P)) (o : Option T) → words_row v w gt 0 l o ≡ row v w l o
+  row_following [] None = refl
+  row_following [] (Some t) = none_inside t
+  row_following (x ∷ l) o = ap (λ s. s ⧺ (print (w x.1) ⧺ words_row v w gt 0 l o)) (none_inside x.0) ∙ ap (λ s. print (v x.0) ⧺ (print (w x.1) ⧺ s)) (row_following l o)
 
   abbrev number : List (T × P) → Option T → ℕ
   number l o = length (map (λ p. p.0) l ++ listed o)
@@ -73,7 +73,7 @@ module _ {T P : Type 0} (v : T → Syntax) (w : P → Syntax) (gt : Stream) wher
   cut_row : (n k : ℕ) (l : List (T × P)) (o : Option T) → k ≡ min (suc n) (number l o) → 0 < number l o → cut_print n (joined_of v w l o) ≡ words_row v w gt k l o
   cut_row n k [] None e h = absurd (omega arith)
   cut_row n k [] (Some t) e h = cut_last n k t (omega (arith, e))
-  cut_row zero k (x ∷ l) o e h = cut_here k x l o (print (joined_of v w l o)) (omega (arith, e)) (joined_row v w l o ∙ sym (row_behind l o))
+  cut_row zero k (x ∷ l) o e h = cut_here k x l o (print (joined_of v w l o)) (omega (arith, e)) (joined_row v w l o ∙ sym (row_following l o))
   cut_row (suc n) k (x ∷ []) None e h = cut_here k x [] None end (omega (arith, e)) refl
   cut_row (suc n) k (x ∷ []) (Some t) e h = cut_later n k x [] (Some t) (omega (arith, e)) (cut_row n (k - 1) [] (Some t) (omega (arith, e)) (omega arith))
   cut_row (suc n) k (x ∷ y ∷ l) o e h = cut_later n k x (y ∷ l) o (omega (arith, e)) (cut_row n (k - 1) (y ∷ l) o (omega (arith, e)) (omega arith))

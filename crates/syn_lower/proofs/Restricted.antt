@@ -8,7 +8,7 @@ use Rattle.syn_grammar.proofs.Sets.{same_text_eq}
 use Rattle.syn_grammar.proofs.Looks.{holds_nothing_of, sees_empty_group, sees_group, sees_word}
 use Rattle.syn_parse.specs.Peeks.{past}
 use Rattle.syn_parse.specs.Opened.{content_of}
-use Rattle.syn_recognize.proofs.Facts.{and_same, told_first, word_face}
+use Rattle.syn_recognize.proofs.Facts.{and_same, reported_first, word_face}
 use Rattle.syn_lower.specs.Looks.{holds_nothing, lone_word, restricts}
 
 -- a word that begins a restriction by itself
@@ -28,9 +28,9 @@ noted_end x m e = go (is_word w_crate (leaf_terminal (ident x))) (is_word w_self
 
     go : (a b c : Bool) → is_word w_crate (leaf_terminal (ident x)) ≡ a → is_word w_self (leaf_terminal (ident x)) ≡ b → is_word w_super (leaf_terminal (ident x)) ≡ c → or a (or b c) ≡ true →
         has_fact Before_end (facts_for (asked (leaf_terminal (ident x))) (lookahead m)) ≡ is_ended (lookahead m).terminal
-    go true b c p q r h = at w_crate (word_face w_crate x p) (told_first Before_end ended asked_by_path_word (lookahead m) refl refl)
-    go false true c p q r h = at w_self (word_face w_self x q) (told_first Before_end ended asked_by_path_word (lookahead m) refl refl)
-    go false false true p q r h = at w_super (word_face w_super x r) (told_first Before_end ended asked_by_path_word (lookahead m) refl refl)
+    go true b c p q r h = at w_crate (word_face w_crate x p) (reported_first Before_end ended asked_by_path_word (lookahead m) refl refl)
+    go false true c p q r h = at w_self (word_face w_self x q) (reported_first Before_end ended asked_by_path_word (lookahead m) refl refl)
+    go false false true p q r h = at w_super (word_face w_super x r) (reported_first Before_end ended asked_by_path_word (lookahead m) refl refl)
     go false false false p q r h = absurd (true≢false (sym h))
 
 pub no_word : (w : Text) (c : ℕ) (j : Bool) (sp : Span) (m : Stream) → is_word w (lookahead (punct c j sp m)).terminal ≡ false

@@ -12,7 +12,7 @@ use Rattle.syn_lower.specs.Plain.{view_Path}
 use Rattle.syn_lower.specs.QualifiedPaths.{count, surplus, part, words_in, separator_after, words_after, qualified, with_qself, syntax_of_TypePath}
 use Rattle.syn_lower.specs.declared.path.Path.TheInside as Path-in
 use Rattle.syn_lower.specs.declared.path.QSelf.TheInside as QSelf-in
-use Rattle.syn_lower.proofs.Compared.{told}
+use Rattle.syn_lower.proofs.Compared.{reported}
 
 -- WITHOUT SPANS
 
@@ -45,15 +45,15 @@ module _ {T P : Type 0} (v : T → Syntax) (w : P → Syntax) where
   plain_separator (suc n) (x ∷ []) (Some t) = plain_separator n [] (Some t)
   plain_separator (suc n) (x ∷ y ∷ l) o = plain_separator n (y ∷ l) o
 
-  plain_behind : (n : ℕ) (l : List (T × P)) (o : Option T) → plain_syntax (words_after n (joined_of v w l o)) ≡ words_after n (plain_words l o)
-  plain_behind zero [] None = refl
-  plain_behind (suc n) [] None = refl
-  plain_behind zero [] (Some t) = refl
-  plain_behind (suc n) [] (Some t) = refl
-  plain_behind zero (x ∷ l) o = plain_joined l o
-  plain_behind (suc n) (x ∷ []) None = refl
-  plain_behind (suc n) (x ∷ []) (Some t) = plain_behind n [] (Some t)
-  plain_behind (suc n) (x ∷ y ∷ l) o = plain_behind n (y ∷ l) o
+  plain_after : (n : ℕ) (l : List (T × P)) (o : Option T) → plain_syntax (words_after n (joined_of v w l o)) ≡ words_after n (plain_words l o)
+  plain_after zero [] None = refl
+  plain_after (suc n) [] None = refl
+  plain_after zero [] (Some t) = refl
+  plain_after (suc n) [] (Some t) = refl
+  plain_after zero (x ∷ l) o = plain_joined l o
+  plain_after (suc n) (x ∷ []) None = refl
+  plain_after (suc n) (x ∷ []) (Some t) = plain_after n [] (Some t)
+  plain_after (suc n) (x ∷ y ∷ l) o = plain_after n (y ∷ l) o
 
   -- `as` and the mark before the path are optional parts
   module _ (a g c : Syntax) (as_part : plain_syntax (part a) ≡ part (plain_syntax a)) (mark_part : plain_syntax (part c) ≡ part (plain_syntax c)) where
@@ -64,7 +64,7 @@ module _ {T P : Type 0} (v : T → Syntax) (w : P → Syntax) where
         plain_syntax (Both (Left (Both (part a) (Node (Both c (words_in n (joined_of v w l o)))))) (Both g (Both (separator_after n (joined_of v w l o)) (words_after n (joined_of v w l o)))))
         ≡ Both (Left (Both (part (plain_syntax a)) (Node (Both (plain_syntax c) (words_in n (plain_words l o)))))) (Both (plain_syntax g) (Both (separator_after n (plain_words l o)) (words_after n (plain_words l o))))
     some_inside n l o =
-        ap₂ (λ x y. Both x (Both (plain_syntax g) y)) (ap₂ (λ x y. Left (Both x (Node (Both (plain_syntax c) y)))) as_part (plain_in n l o)) (ap₂ Both (plain_separator n l o) (plain_behind n l o))
+        ap₂ (λ x y. Both x (Both (plain_syntax g) y)) (ap₂ (λ x y. Left (Both x (Node (Both (plain_syntax c) y)))) as_part (plain_in n l o)) (ap₂ Both (plain_separator n l o) (plain_after n l o))
 
     plain_qualified : (n : ℕ) (l : List (T × P)) (o : Option T) → plain_syntax (qualified n a g c (joined_of v w l o)) ≡ qualified n (plain_syntax a) (plain_syntax g) (plain_syntax c) (plain_words l o)
     plain_qualified zero l o = none_inside (joined_of v w l o) (plain_words l o) (plain_joined l o)
@@ -220,7 +220,7 @@ known_form a p =
 same_qualified_paths : (a b : QSelf-in.Inside) (p q : Path-in.Inside) →
     same_syntax (syntax_of_TypePath (with_qself (view_QSelf a) (view_Path p))) (syntax_of_TypePath (with_qself (view_QSelf b) (view_Path q)))
     ≡ and (same_syntax (view_QSelf a) (view_QSelf b)) (same_syntax (view_Path p) (view_Path q))
-same_qualified_paths a b p q = told syntax_of_TypePath parts (form a p) (form b q) (with_qself (view_QSelf a) (view_Path p)) (with_qself (view_QSelf b) (view_Path q)) (plain_form a p) (plain_form b q) (known_form a p) (known_form b q)
+same_qualified_paths a b p q = reported syntax_of_TypePath parts (form a p) (form b q) (with_qself (view_QSelf a) (view_Path p)) (with_qself (view_QSelf b) (view_Path q)) (plain_form a p) (plain_form b q) (known_form a p) (known_form b q)
 
 pub same_qualified_values : (a b : QSelf-in.Inside) (p q : Path-in.Inside) (s t u v : Syntax) → view_QSelf a ≡ s → view_QSelf b ≡ t → view_Path p ≡ u → view_Path q ≡ v →
     same_syntax (syntax_of_TypePath (with_qself s u)) (syntax_of_TypePath (with_qself t v)) ≡ and (same_syntax s t) (same_syntax u v)

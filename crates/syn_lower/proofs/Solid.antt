@@ -13,7 +13,7 @@ use Rattle.syn_grammar.specs.Run.{branch, parse_rule, parse_form, wrap}
 use Rattle.syn_grammar.specs.Promises.{Computes}
 use Rattle.syn_grammar.proofs.Run.{inv_wrap, inv_then, inv_within, parse_rule_is}
 use Rattle.syn_grammar.proofs.Sets.{and_left, and_right}
-use Rattle.syn_grammar.proofs.Takes.{TreeAndRest, lifetime_told, mark_told}
+use Rattle.syn_grammar.proofs.Takes.{TreeAndRest, lifetime_known, mark_known}
 use Rattle.syn_tokens.specs.Lists.{Sequence}
 use Rattle.syn_tokens.specs.Listing.{list_of}
 use Rattle.syn_parse.specs.Form.{Condition, Form, meets, of, parse}
@@ -60,8 +60,8 @@ on_either false o p h k x e = let z = inv_wrap Right p x e in ap (λ (y : TreeAn
 
 module _ (P : Rule → Bool) (by_rule : (k : Rule) → P k ≡ true → (ts : Stream) → NeverBare (parse_rule k ts)) where
   never_bare : (g : Grammar) → shows P g ≡ true → (ts : Stream) → NeverBare (parse_form g ts)
-  never_bare (mark b cs) w ts x e = let z = mark_told cs ts x e in ap bare z.1 ∙ ap (λ l. same_text l colon) z.2 ∙ not (same_text cs colon) w
-  never_bare lifetime w ts x e = let z = lifetime_told ts x e in ap bare z.3
+  never_bare (mark b cs) w ts x e = let z = mark_known cs ts x e in ap bare z.1 ∙ ap (λ l. same_text l colon) z.2 ∙ not (same_text cs colon) w
+  never_bare lifetime w ts x e = let z = lifetime_known ts x e in ap bare z.3
   never_bare (g & h) w ts x e =
       let z = inv_then (parse_form g ts) (parse_form h) x e in
       ap (λ (y : TreeAndRest). bare y.0) z.4 ∙ one_of (bare z.0.0) (bare z.1.0) (shows P g) (shows P h) w (λ a. never_bare g a ts z.0 z.2) (λ a. never_bare h a z.0.1 z.1 z.3)

@@ -62,12 +62,12 @@ syntax_of_AttrStyle AttrStyle-m.Outer = Right Nothing
 syntax_of_AttrStyle (AttrStyle-m.Inner bang) = Left (not_syntax bang)
 
 -- what follows `#`: of an inner attribute `!`, and of each a group in brackets
-abbrev pub behind_pound : Syntax → Syntax → Syntax
-behind_pound (Left bang) brackets = Both bang brackets
-behind_pound _ brackets = brackets
+abbrev pub after_pound : Syntax → Syntax → Syntax
+after_pound (Left bang) brackets = Both bang brackets
+after_pound _ brackets = brackets
 
 abbrev pub syntax_of_Attribute : Attribute → Syntax
-syntax_of_Attribute a = Both (pound_syntax a.pound_token) (behind_pound (syntax_of_AttrStyle a.style) (group_syntax Bracket a.bracket_token (syntax_of_Meta a.meta)))
+syntax_of_Attribute a = Both (pound_syntax a.pound_token) (after_pound (syntax_of_AttrStyle a.style) (group_syntax Bracket a.bracket_token (syntax_of_Meta a.meta)))
 
 -- ATTRIBUTES IN ORDER: those that are printed there; and, if others are among them, all once more, unshown
 

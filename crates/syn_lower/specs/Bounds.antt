@@ -31,10 +31,10 @@ solid (Node (Left Nothing)) = Node (Left Nothing)
 solid l = pick (bare l) (Both (Added []) l) l
 
 -- a parameter's colon and bounds: neither; or bounds, before which a colon is printed though there is none
-abbrev pub behind_colon : Syntax → Syntax → Syntax
-behind_colon (Right s) (Node (Left Nothing)) = Right Nothing
-behind_colon (Right s) (Node (Right Nothing)) = Right Nothing
-behind_colon colon_token bounds = Left (Both (or_added colon colon_token) bounds)
+abbrev pub after_colon : Syntax → Syntax → Syntax
+after_colon (Right s) (Node (Left Nothing)) = Right Nothing
+after_colon (Right s) (Node (Right Nothing)) = Right Nothing
+after_colon colon_token bounds = Left (Both (or_added colon colon_token) bounds)
 
 -- A BOUND
 

@@ -32,7 +32,7 @@ added_comma = punct 44 false call_site end
 
 -- a parameter with what follows it, where it is a lifetime (true), or where it is none
 abbrev pub param_part : Bool → GenericParam-m.the_data → Stream → Stream
-param_part lifetimes p behind = pick (same_bool lifetimes (is_lifetime p)) (print (syntax_of_GenericParam p) ⧺ behind) end
+param_part lifetimes p following = pick (same_bool lifetimes (is_lifetime p)) (print (syntax_of_GenericParam p) ⧺ following) end
 
 -- of parameters with their commas, the lifetimes (true), or the others
 abbrev pub pairs_part : Bool → List (GenericParam-m.the_data × Comma) → Stream

@@ -10,7 +10,7 @@ use Rattle.syn_tokens.specs.Listing.{list_of}
 use Rattle.syn_tokens.specs.Lists.{Sequence}
 use Rattle.syn_tokens.specs.declared.lifetime.Lifetime.{Lifetime}
 use Rattle.syn_lower.specs.Attributes.{attributes_syntax}
-use Rattle.syn_lower.specs.Bounds.{behind_colon, solid, syntax_of_TypeParamBound, turned}
+use Rattle.syn_lower.specs.Bounds.{after_colon, solid, syntax_of_TypeParamBound, turned}
 use Rattle.syn_lower.specs.Parts.{or_else}
 use Rattle.syn_lower.specs.Types.{syntax_of_Type, syntax_of_lifetime}
 use Rattle.syn_lower.specs.declared.bounds.TypeParamBound.TheVariants as TypeParamBound-m
@@ -24,7 +24,7 @@ use Rattle.syn_lower.specs.declared.generics.Generics.TheInside as Generics-in
 
 -- a colon and lifetimes, where there are some
 abbrev pub lifetime_bounds_syntax : Option Colon × Sequence Lifetime Plus → Syntax
-lifetime_bounds_syntax p = Vanishing false (behind_colon (maybe colon_syntax p.0) (turned (list_of syntax_of_lifetime plus_syntax p.1.pairs p.1.last)))
+lifetime_bounds_syntax p = Vanishing false (after_colon (maybe colon_syntax p.0) (turned (list_of syntax_of_lifetime plus_syntax p.1.pairs p.1.last)))
 
 abbrev pub view_LifetimeParam : LifetimeParam-in.Inside → Syntax
 view_LifetimeParam a = Node (Both (attributes_syntax a.attrs.items) (Both (syntax_of_lifetime a.lifetime) (lifetime_bounds_syntax (a.colon_token, a.bounds))))
@@ -38,7 +38,7 @@ default_of s t = Both s t
 
 -- a colon and bounds, where there are some
 abbrev pub bounds_syntax : Option Colon × Sequence TypeParamBound-m.the_data Plus → Syntax
-bounds_syntax p = Vanishing false (behind_colon (maybe colon_syntax p.0) (solid (list_of syntax_of_TypeParamBound plus_syntax p.1.pairs p.1.last)))
+bounds_syntax p = Vanishing false (after_colon (maybe colon_syntax p.0) (solid (list_of syntax_of_TypeParamBound plus_syntax p.1.pairs p.1.last)))
 
 abbrev pub view_TypeParam : TypeParam-in.Inside → Syntax
 view_TypeParam a =
@@ -79,16 +79,16 @@ abbrev pub is_written : List (ℕ × Span) → Bool
 is_written [] = false
 is_written (x ∷ l) = true
 
-abbrev pub stands : {X : Type 0} → Option X → Bool
-stands None = false
-stands (Some x) = true
+abbrev pub present : {X : Type 0} → Option X → Bool
+present None = false
+present (Some x) = true
 
 -- a sign that is there is written
 abbrev pub LtPresent : Option Lt → Type 0
-LtPresent lt_token = is_written (sign_of (maybe lt_syntax lt_token)) ≡ stands lt_token
+LtPresent lt_token = is_written (sign_of (maybe lt_syntax lt_token)) ≡ present lt_token
 
 abbrev pub GtPresent : Option Gt → Type 0
-GtPresent gt_token = is_written (sign_of (maybe gt_syntax gt_token)) ≡ stands gt_token
+GtPresent gt_token = is_written (sign_of (maybe gt_syntax gt_token)) ≡ present gt_token
 
 abbrev pub no_parameters : Syntax
 no_parameters = Node (Vanishing false (Right Nothing))

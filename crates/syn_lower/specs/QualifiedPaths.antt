@@ -46,9 +46,9 @@ qualified (suc n) as_token gt leading Nothing = Both (Right (Unshown (part as_to
 qualified (suc n) as_token gt leading words = Both (Left (Both (part as_token) (Node (Both leading (words_in n words))))) (Both gt (Both (separator_after n words) (words_after n words)))
 
 -- of what a value holds: the part in `< >`, and the path
-abbrev pub behind_type : Syntax → Syntax → Syntax
-behind_type (Both lt (Both ty (Both (Unshown (Mark ((n, sp) ∷ []))) (Both as_token gt)))) (Node (Both leading words)) = qualified n as_token gt leading words
-behind_type qself path = Both qself path
+abbrev pub after_type : Syntax → Syntax → Syntax
+after_type (Both lt (Both ty (Both (Unshown (Mark ((n, sp) ∷ []))) (Both as_token gt)))) (Node (Both leading words)) = qualified n as_token gt leading words
+after_type qself path = Both qself path
 
 abbrev pub with_qself : Syntax → Syntax → Syntax
 with_qself qself path = Node (Both (Left qself) path)

@@ -4,8 +4,8 @@ use Rattle.std.specs.Borrow.{Bor}
 use Rattle.std.proofs.lemmas.List.{length-map, length-take-le, map_more, take_all}
 use Rattle.syn_grammar.specs.Tokens.{Stream}
 use Rattle.syn_tokens.specs.Faults.{FaultValue, combined}
-use Rattle.syn_parse.specs.Looked.{HasFaultsNext, texts, told}
-use Rattle.syn_parse.specs.Nexts.{StandsNext}
+use Rattle.syn_parse.specs.Looked.{HasFaultsNext, texts, reported}
+use Rattle.syn_parse.specs.Nexts.{IsNext}
 use Rattle.syn_tokens.specs.declared.span.Span.{Span}
 
 -- a text, as it is borrowed
@@ -17,10 +17,10 @@ abbrev pub fault_at : Span → Name → FaultValue
 fault_at here name = (here, name.now)
 
 -- a fault after fewer than four
-pub one_told : (here : Span) (names : List Name) (i : ℕ) (d : Name) (f : FaultValue) (text : List ℕ) (start faults new : List FaultValue) →
+pub one_known : (here : Span) (names : List Name) (i : ℕ) (d : Name) (f : FaultValue) (text : List ℕ) (start faults new : List FaultValue) →
     faults ≡ start ++ map (fault_at here) (take i names) → start ≡ f ∷ [] → new ≡ (here, text) ∷ [] → text ≡ (get_or names i d).now → i < length names → length names < 4 →
     combined faults new ≡ start ++ map (fault_at here) (take (i + 1) names)
-one_told here names i d f text start faults new x s n t l few =
+one_known here names i d f text start faults new x s n t l few =
     ap (λ z. combined z new) (x ∙ ap (λ z. z ++ map (fault_at here) (take i names)) s)
     ∙ ap (combined (f ∷ map (fault_at here) (take i names))) (n ∙ ap (λ z. (here, z) ∷ []) t)
     ∙ take_all 4 (f ∷ (map (fault_at here) (take i names) ++ fault_at here (get_or names i d) ∷ [])) (omega (arith, length-append (map (fault_at here) (take i names)) (fault_at here (get_or names i d) ∷ []), length-map (take i names) (fault_at here), length-take-le i names (omega (arith, l)), l, few))
@@ -32,15 +32,15 @@ by_texts here [] = refl
 by_texts here (n ∷ names) = ap (λ l. fault_at here n ∷ l) (by_texts here names)
 
 -- the faults of all names
-pub all_told : (ts : Stream) (here : Span) (first : Name) (others names : List Name) (missed : List (List ℕ)) (i : ℕ) (text : List ℕ) (start faults : List FaultValue) →
-    StandsNext ts here → names ≡ first ∷ others → texts names ≡ missed → faults ≡ start ++ map (fault_at here) (take i others) → start ≡ (here, text) ∷ [] → text ≡ first.now → length others ≤ i →
-    HasFaultsNext ts (told ts missed) faults
-all_told ts here first others names missed i text start faults h a m x s t l = (
+pub all_known : (ts : Stream) (here : Span) (first : Name) (others names : List Name) (missed : List (List ℕ)) (i : ℕ) (text : List ℕ) (start faults : List FaultValue) →
+    IsNext ts here → names ≡ first ∷ others → texts names ≡ missed → faults ≡ start ++ map (fault_at here) (take i others) → start ≡ (here, text) ∷ [] → text ≡ first.now → length others ≤ i →
+    HasFaultsNext ts (reported ts missed) faults
+all_known ts here first others names missed i text start faults h a m x s t l = (
   here,
   x ∙ ap (λ z. z ++ map (fault_at here) (take i others)) s
       ∙ ap (λ z. (here, z) ∷ map (fault_at here) (take i others)) t
       ∙ ap (λ z. fault_at here first ∷ map (fault_at here) z) (take_all i others l)
       ∙ ap (λ z. fault_at here first ∷ z) (by_texts here others)
-      ∙ ap (λ z. map (λ text. (here, text)) (told ts z)) (ap texts (sym a) ∙ m),
+      ∙ ap (λ z. map (λ text. (here, text)) (reported ts z)) (ap texts (sym a) ∙ m),
   h,
 )

@@ -9,7 +9,7 @@ use Rattle.syn_tokens.specs.Lists.{Sequence}
 use Rattle.syn_tokens.specs.Listing.{list_of, onto}
 use Rattle.syn_parse.specs.Terminated.{terminated, DerivesList}
 use Rattle.syn_parse.specs.Form.{Form, parse, Derives, Meaning, ParsesSome, NotDerivedList, ListOutcome}
-use Rattle.syn_parse.specs.TerminatedLists.{IsTerminated, terminated_is, terminated_more, list_told, list_unread}
+use Rattle.syn_parse.specs.TerminatedLists.{IsTerminated, terminated_is, terminated_more, list_known, list_unread}
 use Rattle.syn_parse.specs.Meanings.{law_by}
 use Rattle.syn_parse.proofs.Listing.{onto_grows}
 
@@ -26,10 +26,10 @@ pub list_is : (f g : Form) → Meaning f → ParsesSome g → IsTerminated (pars
 list_is f g m short = terminated_is (parse f) (parse g) (λ ts x e. m.kept ts x.0 x.1 e) short
 
 -- a parsed list is such a list
-pub form_list_told : (f g : Form) → Meaning f → Meaning g → ParsesSome g → {T P : Type 0} (v : T → Syntax) (w : P → Syntax) (l : List (T × P)) (o : Option T) (ts r : Stream) →
+pub form_list_known : (f g : Form) → Meaning f → Meaning g → ParsesSome g → {T P : Type 0} (v : T → Syntax) (w : P → Syntax) (l : List (T × P)) (o : Option T) (ts r : Stream) →
     visible ts ≡ true → terminated (parse f) (parse g) ts ≡ Some (list_of v w l o, r) → DerivesList (Derives f) (Derives g) v w l o ts
-form_list_told f g m n short v w l o ts r k e =
-    list_told (parse f) (parse g) (Derives f) (Derives g) (law_by f m) (law_by g n) (list_is f g m short) v w l o ts r k e
+form_list_known f g m n short v w l o ts r k e =
+    list_known (parse f) (parse g) (Derives f) (Derives g) (law_by f m) (law_by g n) (list_is f g m short) v w l o ts r k e
 
 -- if nothing is parsed, nothing is such a list
 pub form_list_unread : (f g : Form) → Meaning f → Meaning g → ParsesSome g → (ts : Stream) → visible ts ≡ true → terminated (parse f) (parse g) ts ≡ None → NotDerivedList f g ts

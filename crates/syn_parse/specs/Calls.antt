@@ -11,4 +11,4 @@ pub record IsAnswer {F R T : Type 0} (calls : Once F (MutBor Stream × Unit {0})
   pub rest : Stream
   pub called : FnOnceReturnsAtMut calls f old answer rest
   pub same : result ≡ answers answer
-  pub goes_on : OnOk result (new ≡ rest)
+  pub proceeds : OnOk result (new ≡ rest)

@@ -2,7 +2,7 @@
 -- `parse` is the parser of a form, `Derives` its derivation relation in terms of the grammar; `Meaning` states that they agree.
 use Rattle.std.specs.Prelude.{◌≡◌, ◌↔◌, ◌⊎◌, ◌<◌, ◌≤◌, Bool, true, false, Some, None, Result, Ok, Err}
 use Rattle.syn_grammar.specs.Words.{Text}
-use Rattle.syn_grammar.specs.Tokens.{Span, Delimiter, ident, Stream, end, leaf, group, visible, same_text, Look, stands, or, and, no}
+use Rattle.syn_grammar.specs.Tokens.{Span, Delimiter, ident, Stream, end, leaf, group, visible, same_text, Look, present, or, and, no}
 use Rattle.syn_grammar.specs.Grammar as grammar
 use Rattle.syn_grammar.specs.Grammar.{Grammar, Syntax, Nothing, Token, Both, Left, Right, Group}
 use Rattle.syn_grammar.specs.Table.{table}
@@ -38,10 +38,10 @@ meets (at_keyword x) ts = taken (take_keyword x ts)
 meets (at_punctuation x) ts = taken (take_mark x ts)
 
 -- as the grammar states it
-abbrev pub stands_next : Condition → Stream → Bool
-stands_next (by c) ts = stands c ts
-stands_next (at_keyword x) ts = taken (take_keyword x ts)
-stands_next (at_punctuation x) ts = taken (take_mark x ts)
+abbrev pub is_next : Condition → Stream → Bool
+is_next (by c) ts = present c ts
+is_next (at_keyword x) ts = taken (take_keyword x ts)
+is_next (at_punctuation x) ts = taken (take_mark x ts)
 
 -- FORMS
 
@@ -84,8 +84,8 @@ Derives (of g) s ts r = DerivesValue g s ts r
 Derives (keyword x) s ts r = (sp : Span) × (s ≡ Token (ident x) sp) × (ts ≡ leaf (ident x) sp r)
 Derives (f followed_by g) s ts r = (a b : Syntax) × (m : Stream) × (s ≡ Both a b) × Derives f a ts m × Derives g b m r
 Derives (choice c f g) s ts r =
-    ((a : Syntax) × (stands_next c ts ≡ true) × (s ≡ Left a) × Derives f a ts r)
-    ⊎ ((a : Syntax) × (stands_next c ts ≡ false) × (s ≡ Right a) × Derives g a ts r)
+    ((a : Syntax) × (is_next c ts ≡ true) × (s ≡ Left a) × Derives f a ts r)
+    ⊎ ((a : Syntax) × (is_next c ts ≡ false) × (s ≡ Right a) × Derives g a ts r)
 Derives (in_group d f) s ts r = (o c : Span) × (content : Stream) × (a : Syntax) × (s ≡ Group d o c a) × (ts ≡ group d o c content r) × Derives f a content end
 Derives (list f g) s ts r = (l : Sequence Syntax Syntax) × (s ≡ list_of itself itself l.pairs l.last) × (r ≡ end) × DerivesList (Derives f) (Derives g) itself itself l.pairs l.last ts
 Derives (such_that q f) s ts r = (q s ≡ true) × Derives f s ts r

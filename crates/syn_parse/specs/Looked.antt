@@ -6,7 +6,7 @@ use Rattle.syn_grammar.specs.Tokens.{Stream, ended, pick}
 use Rattle.syn_grammar.specs.Take.{sees}
 use Rattle.syn_grammar.specs.Codes.{stream_code}
 use Rattle.syn_tokens.specs.Faults.{FaultValue}
-use Rattle.syn_parse.specs.Nexts.{StandsNext}
+use Rattle.syn_parse.specs.Nexts.{IsNext}
 use Rattle.syn_tokens.specs.declared.span.Span.{Span}
 
 -- the texts of names
@@ -35,10 +35,10 @@ abbrev pub unexpected : Stream → List ℕ
 unexpected ts = pick (sees ended ts) (codes "unexpected end of input") (codes "unexpected token")
 
 -- one message for each name, or a single one if there is none
-abbrev pub told : Stream → List (List ℕ) → List (List ℕ)
-told ts [] = unexpected ts ∷ []
-told ts (x ∷ l) = x ∷ l
+abbrev pub reported : Stream → List (List ℕ) → List (List ℕ)
+reported ts [] = unexpected ts ∷ []
+reported ts (x ∷ l) = x ∷ l
 
 -- there is a fault for each of these messages, in order, all at the next token
 abbrev pub HasFaultsNext : Stream → List (List ℕ) → List FaultValue → Type 0
-HasFaultsNext ts texts faults = (span : Span) × (faults ≡ map (λ text. (span, text)) texts) × StandsNext ts span
+HasFaultsNext ts texts faults = (span : Span) × (faults ≡ map (λ text. (span, text)) texts) × IsNext ts span

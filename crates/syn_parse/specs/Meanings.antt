@@ -10,11 +10,11 @@ use Rattle.syn_grammar.specs.Promises as says
 use Rattle.syn_grammar.proofs.FirstSets.{nullable}
 use Rattle.syn_grammar.proofs.Said.{start_of}
 use Rattle.syn_grammar.proofs.Sets.{and_left, and_right, same_text_eq, same_text_refl}
-use Rattle.syn_grammar.proofs.Takes.{TreeAndRest, inv_only, sees_is, end_told, end_found, group_less, group_told, group_found}
+use Rattle.syn_grammar.proofs.Takes.{TreeAndRest, inv_only, sees_is, end_known, end_found, group_less, group_known, group_found}
 use Rattle.syn_grammar.proofs.Means.{rest_seen}
 use Rattle.syn_grammar.proofs.Run.{Falls, Less, inv_wrap, inv_then, inv_within, parse_falls, runs_shrinks, parse_rule_less}
 use Rattle.syn_grammar.proofs.Outcomes.{meaning_of as grammar_means}
-use Rattle.syn_parse.specs.Form.{Condition, by, at_keyword, at_punctuation, take_keyword, meets, stands_next, Form, of, keyword, ◌followed_by◌, choice, in_group, list, such_that, optional, if_tree, parse, Derives, NotDerived, reads_some, is_sound, Meaning}
+use Rattle.syn_parse.specs.Form.{Condition, by, at_keyword, at_punctuation, take_keyword, meets, is_next, Form, of, keyword, ◌followed_by◌, choice, in_group, list, such_that, optional, if_tree, parse, Derives, NotDerived, reads_some, is_sound, Meaning}
 use Rattle.syn_parse.specs.TerminatedLists.{Shorter, Law, terminated_is, list_split, list_found, list_falls}
 
 -- which token a keyword form parses
@@ -26,32 +26,32 @@ keyword_less x (leaf (literal k z) sp r) y e = absurd (cc e)
 keyword_less x (punct c j sp m) y e = absurd (cc e)
 keyword_less x (group d o c i m) y e = absurd (cc e)
 
-keyword_told : (x : Text) (ts : Stream) (s : Syntax) (r : Stream) → take_keyword x ts ≡ Some (s, r) → Derives (keyword x) s ts r
+keyword_known : (x : Text) (ts : Stream) (s : Syntax) (r : Stream) → take_keyword x ts ≡ Some (s, r) → Derives (keyword x) s ts r
 unfolding take_keyword
-keyword_told x end s r e = absurd (cc e)
-keyword_told x (leaf (ident z) sp m) s r e =
+keyword_known x end s r e = absurd (cc e)
+keyword_known x (leaf (ident z) sp m) s r e =
     let h = inv_only (same_text z x) _ _ e in
     let a : z ≡ x = same_text_eq z x h.0 in
     let i : ◌≡◌ {A = TreeAndRest} (Token (ident z) sp, m) (s, r) = cc h.1 in
     let b : s ≡ Token (ident z) sp = sym (ap (λ (y : TreeAndRest). y.0) i) in
     let c : m ≡ r = ap (λ (y : TreeAndRest). y.1) i in
     (sp, b ∙ ap (λ w. Token (ident w) sp) a, ap (λ w. leaf (ident w) sp m) a ∙ ap (leaf (ident x) sp) c)
-keyword_told x (leaf (literal k z) sp m) s r e = absurd (cc e)
-keyword_told x (punct c j sp m) s r e = absurd (cc e)
-keyword_told x (group d o c i m) s r e = absurd (cc e)
+keyword_known x (leaf (literal k z) sp m) s r e = absurd (cc e)
+keyword_known x (punct c j sp m) s r e = absurd (cc e)
+keyword_known x (group d o c i m) s r e = absurd (cc e)
 
 keyword_found : (x : Text) (ts : Stream) (s : Syntax) (r : Stream) → Derives (keyword x) s ts r → take_keyword x ts ≡ Some (s, r)
 unfolding take_keyword
 keyword_found x ts s r (sp, a, b) = ap (take_keyword x) b ∙ ap (λ w. only w (Some (Token (ident x) sp, r))) (same_text_refl x) ∙ ap (λ w. Some (w, r)) (sym a)
 
 -- the computed condition agrees with the one that the grammar states
-meets_is : (c : Condition) (ts : Stream) → visible ts ≡ true → meets c ts ≡ stands_next c ts
+meets_is : (c : Condition) (ts : Stream) → visible ts ≡ true → meets c ts ≡ is_next c ts
 meets_is (by c) ts v = sees_is c ts v
 meets_is (at_keyword x) ts v = refl
 meets_is (at_punctuation x) ts v = refl
 
-behind_seen : (d : Delimiter) (o c : Span) (ts i r : Stream) → ts ≡ group d o c i r → visible ts ≡ true → (visible i ≡ true) × (visible r ≡ true)
-behind_seen d o c ts i r e v =
+after_seen : (d : Delimiter) (o c : Span) (ts i r : Stream) → ts ≡ group d o c i r → visible ts ≡ true → (visible i ≡ true) × (visible r ≡ true)
+after_seen d o c ts i r e v =
     let w = and_right (is_visible d) _ (ap visible (sym e) ∙ v) in
     (and_left (visible i) _ w, and_right (visible i) _ w)
 
@@ -62,7 +62,7 @@ seen (keyword x) s ts r (sp, e, a) v = ap visible (sym a) ∙ v
 seen (f followed_by g) s ts r (a, b, m, e, x, y) v = seen g b m r y (seen f a ts m x v)
 seen (choice c f g) s ts r (inl (a, h, e, x)) v = seen f a ts r x v
 seen (choice c f g) s ts r (inr (a, h, e, x)) v = seen g a ts r x v
-seen (in_group d f) s ts r (o, c, i, a, e, h, x) v = (behind_seen d o c ts i r h v).1
+seen (in_group d f) s ts r (o, c, i, a, e, h, x) v = (after_seen d o c ts i r h v).1
 seen (list f g) s ts r (l, e, h, x) v = ap visible h
 seen (such_that q f) s ts r (h, x) v = seen f s ts r x v
 
@@ -155,10 +155,10 @@ shorter_of f w s = (fewer f w).1 s
 
 -- THE PARSER AND THE DERIVATION AGREE
 
-choice_told : (c : Condition) (f g : Form) → (ts : Stream) → visible ts ≡ true → (s : Syntax) (r : Stream) →
+choice_known : (c : Condition) (f g : Form) → (ts : Stream) → visible ts ≡ true → (s : Syntax) (r : Stream) →
     ((s : Syntax) (r : Stream) → parse f ts ≡ Some (s, r) → Derives f s ts r) → ((s : Syntax) (r : Stream) → parse g ts ≡ Some (s, r) → Derives g s ts r) →
     parse (choice c f g) ts ≡ Some (s, r) → Derives (choice c f g) s ts r
-choice_told c f g ts v s r h k e = go (inv_branch (meets c ts) (parse f ts) (parse g ts) (s, r) e)
+choice_known c f g ts v s r h k e = go (inv_branch (meets c ts) (parse f ts) (parse g ts) (s, r) e)
   where
     go : ((y : TreeAndRest) × (meets c ts ≡ true) × (parse f ts ≡ Some y) × (◌≡◌ {A = TreeAndRest} (s, r) (Left y.0, y.1))) ⊎ ((y : TreeAndRest) × (meets c ts ≡ false) × (parse g ts ≡ Some y) × (◌≡◌ {A = TreeAndRest} (s, r) (Right y.0, y.1))) → Derives (choice c f g) s ts r
     go (inl (y, b, e, i)) = inl (y.0, sym (meets_is c ts v) ∙ b, ap (λ (y : TreeAndRest). y.0) i, subst (λ z. Derives f y.0 ts z) (sym (ap (λ (y : TreeAndRest). y.1) i)) (h y.0 y.1 e))
@@ -174,13 +174,13 @@ choice_found c f g ts v s r h k (inr (a, b, e, x)) =
 
 pub law_of : (f : Form) → is_sound f ≡ true → Law (parse f) (Derives f)
 law_of (of g) w = record {
-  told = λ ts s r v e. ((grammar_means g w ts v).0 s r).0 e;
+  reported = λ ts s r v e. ((grammar_means g w ts v).0 s r).0 e;
   found = λ ts s r v d. ((grammar_means g w ts v).0 s r).1 d;
   falls = parse_falls g;
   seen = seen (of g);
 }
 law_of (keyword x) w = record {
-  told = λ ts s r v e. keyword_told x ts s r e;
+  reported = λ ts s r v e. keyword_known x ts s r e;
   found = λ ts s r v d. keyword_found x ts s r d;
   falls = falls_of (keyword x) w;
   seen = seen (keyword x);
@@ -189,10 +189,10 @@ law_of (f followed_by g) w =
     let lf = law_of f (and_left (is_sound f) _ w) in
     let lg = law_of g (and_right (is_sound f) _ w) in
     record {
-      told = λ ts s r v e.
+      reported = λ ts s r v e.
           let z = inv_then (parse f ts) (parse g) (s, r) e in
-          let a : Derives f z.0.0 ts z.0.1 = lf.told ts z.0.0 z.0.1 v z.2 in
-          let b : Derives g z.1.0 z.0.1 z.1.1 = lg.told z.0.1 z.1.0 z.1.1 (seen f z.0.0 ts z.0.1 a v) z.3 in
+          let a : Derives f z.0.0 ts z.0.1 = lf.reported ts z.0.0 z.0.1 v z.2 in
+          let b : Derives g z.1.0 z.0.1 z.1.1 = lg.reported z.0.1 z.1.0 z.1.1 (seen f z.0.0 ts z.0.1 a v) z.3 in
           (z.0.0, z.1.0, z.0.1, ap (λ (y : TreeAndRest). y.0) z.4, a, subst (λ m. Derives g z.1.0 z.0.1 m) (sym (ap (λ (y : TreeAndRest). y.1) z.4)) b);
       found = λ ts s r v (a, b, m, e, x, y).
           ap (λ o. and_then o (parse g)) (lf.found ts a m v x) ∙ ap (wrap (Both a)) (lg.found m b r (seen f a ts m x v) y) ∙ ap (λ z. Some (z, r)) (sym e);
@@ -203,7 +203,7 @@ law_of (choice c f g) w =
     let lf = law_of f (and_left (is_sound f) _ w) in
     let lg = law_of g (and_right (is_sound f) _ w) in
     record {
-      told = λ ts s r v e. choice_told c f g ts v s r (λ s r. lf.told ts s r v) (λ s r. lg.told ts s r v) e;
+      reported = λ ts s r v e. choice_known c f g ts v s r (λ s r. lf.reported ts s r v) (λ s r. lg.reported ts s r v) e;
       found = λ ts s r v d. choice_found c f g ts v s r (λ s r. lf.found ts s r v) (λ s r. lg.found ts s r v) d;
       falls = falls_of (choice c f g) w;
       seen = seen (choice c f g);
@@ -211,12 +211,12 @@ law_of (choice c f g) w =
 law_of (in_group d f) w =
     let lf = law_of f w in
     record {
-      told = λ ts s r v e.
+      reported = λ ts s r v e.
           let z = inv_within d (take_group d ts) (parse f) (s, r) e in
-          let h : ts ≡ group d z.0.opening z.0.closing z.0.content z.0.rest = group_told d ts z.0 v z.2 in
-          let i : visible z.0.content ≡ true = (behind_seen d z.0.opening z.0.closing ts z.0.content z.0.rest h v).0 in
-          let a : Derives f z.1.0 z.0.content z.1.1 = lf.told z.0.content z.1.0 z.1.1 i z.3 in
-          let j : z.1.1 ≡ end = end_told z.1.1 (seen f z.1.0 z.0.content z.1.1 a i) z.4 in (
+          let h : ts ≡ group d z.0.opening z.0.closing z.0.content z.0.rest = group_known d ts z.0 v z.2 in
+          let i : visible z.0.content ≡ true = (after_seen d z.0.opening z.0.closing ts z.0.content z.0.rest h v).0 in
+          let a : Derives f z.1.0 z.0.content z.1.1 = lf.reported z.0.content z.1.0 z.1.1 i z.3 in
+          let j : z.1.1 ≡ end = end_known z.1.1 (seen f z.1.0 z.0.content z.1.1 a i) z.4 in (
             z.0.opening,
             z.0.closing,
             z.0.content,
@@ -226,7 +226,7 @@ law_of (in_group d f) w =
             subst (λ m. Derives f z.1.0 z.0.content m) j a,
           );
       found = λ ts s r v (o, c, i, a, e, h, x).
-          let k : visible i ≡ true = (behind_seen d o c ts i r h v).0 in
+          let k : visible i ≡ true = (after_seen d o c ts i r h v).0 in
           ap (λ z. within d z (parse f)) (group_found d o c i ts r v h)
           ∙ ap (close d (record { opening = o; closing = c; content = i; rest = r })) (lf.found i a end k x)
           ∙ ap (λ b. only b (Some (Group d o c a, r))) end_found
@@ -242,7 +242,7 @@ law_of (list f g) w =
     let short : Shorter (parse g) = shorter_of g wg (and_left (reads_some g) _ w) in
     let is = terminated_is (parse f) (parse g) (falls_of f wf) short in
     record {
-      told = λ ts s r v e. list_split (parse f) (parse g) (Derives f) (Derives g) lf lg is short ts s r v e;
+      reported = λ ts s r v e. list_split (parse f) (parse g) (Derives f) (Derives g) lf lg is short ts s r v e;
       found = λ ts s r v (l, e, h, x).
           list_found (parse f) (parse g) (Derives f) (Derives g) lf lg is says.itself says.itself short l.pairs l.last ts v x
           ∙ ap (λ z. Some (z, end)) (sym e) ∙ ap (λ z. Some (s, z)) (sym h);
@@ -252,7 +252,7 @@ law_of (list f g) w =
 law_of (such_that q f) w =
     let lf = law_of f w in
     record {
-      told = λ ts s r v e. let z = inv_tree q (parse f ts) (s, r) e in (z.0, lf.told ts s r v z.1);
+      reported = λ ts s r v e. let z = inv_tree q (parse f ts) (s, r) e in (z.0, lf.reported ts s r v z.1);
       found = λ ts s r v (h, x). ap (if_tree q) (lf.found ts s r v x) ∙ ap (λ b. only b (Some (s, r))) h;
       falls = falls_of (such_that q f) w;
       seen = seen (such_that q f);
@@ -267,7 +267,7 @@ is_none f l ts v u = go (parse f ts) refl
   where
     go : (o : Out) → parse f ts ≡ o → o ≡ None
     go None e = refl
-    go (Some p) e = absurd (u p.0 p.1 (l.told ts p.0 p.1 v e))
+    go (Some p) e = absurd (u p.0 p.1 (l.reported ts p.0 p.1 v e))
 
 refused_of : (f : Form) → is_sound f ≡ true → Law (parse f) (Derives f) → (ts : Stream) → visible ts ≡ true → (parse f ts ≡ None → NotDerived f ts) × (NotDerived f ts → parse f ts ≡ None)
 refused_of (of g) w l ts v = (grammar_means g w ts v).1
@@ -283,7 +283,7 @@ pub meaning_of : (f : Form) → is_sound f ≡ true → Meaning f
 meaning_of f w =
     let l = law_of f w in
     record {
-      derived = λ ts v s r. (l.told ts s r v, l.found ts s r v);
+      derived = λ ts v s r. (l.reported ts s r v, l.found ts s r v);
       refused = λ ts v. refused_of f w l ts v;
       kept = λ ts s r e. l.falls ts (s, r) e;
     }
@@ -294,7 +294,7 @@ meaning_of_rule k = meaning_of (of (rule k)) refl
 -- the law of a form, from its meaning
 pub law_by : (f : Form) → Meaning f → Law (parse f) (Derives f)
 law_by f m = record {
-  told = λ ts s r v e. (m.derived ts v s r).0 e;
+  reported = λ ts s r v e. (m.derived ts v s r).0 e;
   found = λ ts s r v d. (m.derived ts v s r).1 d;
   falls = λ ts x e. m.kept ts x.0 x.1 e;
   seen = seen f;
@@ -304,18 +304,18 @@ law_by f m = record {
 pub meaning_of_optional : (c : Condition) (f : Form) → Meaning f → Meaning (optional c f)
 meaning_of_optional c f m =
     let n = meaning_of (of empty) refl in
-    let told = λ (ts : Stream) (v : visible ts ≡ true) (s : Syntax) (r : Stream) (e : parse (optional c f) ts ≡ Some (s, r)).
-    choice_told c f (of empty) ts v s r (λ s r. (m.derived ts v s r).0) (λ s r. (n.derived ts v s r).0) e in
+    let reported = λ (ts : Stream) (v : visible ts ≡ true) (s : Syntax) (r : Stream) (e : parse (optional c f) ts ≡ Some (s, r)).
+    choice_known c f (of empty) ts v s r (λ s r. (m.derived ts v s r).0) (λ s r. (n.derived ts v s r).0) e in
     let found = λ (ts : Stream) (v : visible ts ≡ true) (s : Syntax) (r : Stream) (d : Derives (optional c f) s ts r).
     choice_found c f (of empty) ts v s r (λ s r. (m.derived ts v s r).1) (λ s r. (n.derived ts v s r).1) d in
     let l : Law (parse (optional c f)) (Derives (optional c f)) = record {
-      told = λ ts s r v. told ts v s r;
+      reported = λ ts s r v. reported ts v s r;
       found = λ ts s r v. found ts v s r;
       falls = λ ts x e. choice_falls c f (of empty) (λ ts x e. m.kept ts x.0 x.1 e) (λ ts x e. n.kept ts x.0 x.1 e) ts x (inv_branch (meets c ts) (parse f ts) (Some (Nothing, ts)) x e);
       seen = seen (optional c f);
     } in
     record {
-      derived = λ ts v s r. (told ts v s r, found ts v s r);
+      derived = λ ts v s r. (reported ts v s r, found ts v s r);
       refused = λ ts v. (none_is (optional c f) l ts v, is_none (optional c f) l ts v);
       kept = λ ts s r e. l.falls ts (s, r) e;
     }

@@ -8,17 +8,17 @@ use Rattle.syn_parse.specs.declared.read.refusal.Refusal.{Refusal}
 use Rattle.syn_parse.specs.declared.read.refusal.Refusal.TheVariants.{Memory, Syntax}
 
 -- the next token is at this span, a group by its opening delimiter; at the end nothing is claimed
-abbrev pub StandsNext : Stream → Span → Type 0
-StandsNext end s = Unit {0}
-StandsNext (leaf x sp r) s = at s ≡ sp
-StandsNext (punct c j sp r) s = at s ≡ sp
-StandsNext (group d o c i r) s = at s ≡ o
+abbrev pub IsNext : Stream → Span → Type 0
+IsNext end s = Unit {0}
+IsNext (leaf x sp r) s = at s ≡ sp
+IsNext (punct c j sp r) s = at s ≡ sp
+IsNext (group d o c i r) s = at s ≡ o
 
 -- nothing is parsed, since the next token is not the one that this message expects
 abbrev pub RefusedNext : Stream → List ℕ → Refusal → Type 0
 RefusedNext ts text (Memory at) = ⊥
-RefusedNext ts text (Syntax span said) = (said.now ≡ text) × StandsNext ts span
+RefusedNext ts text (Syntax span said) = (said.now ≡ text) × IsNext ts span
 
 -- there is one fault, with this message, at the next token
 abbrev pub HasFaultNext : Stream → List ℕ → List FaultValue → Type 0
-HasFaultNext ts text faults = (span : Span) × (faults ≡ (span, text) ∷ []) × StandsNext ts span
+HasFaultNext ts text faults = (span : Span) × (faults ≡ (span, text) ∷ []) × IsNext ts span

@@ -6,7 +6,7 @@ use Rattle.syn_grammar.specs.Take.{Out, Parser, left, sees}
 use Rattle.syn_grammar.specs.Run.{wrap, and_then, branch}
 use Rattle.syn_grammar.specs.Promises.{itself}
 use Rattle.syn_grammar.proofs.Looks.{sees_ended}
-use Rattle.syn_grammar.proofs.Takes.{end_told, end_found, end_least}
+use Rattle.syn_grammar.proofs.Takes.{end_known, end_found, end_least}
 use Rattle.syn_grammar.proofs.Run.{Falls}
 use Rattle.syn_tokens.specs.Lists.{Sequence}
 use Rattle.syn_tokens.specs.Listing.{list_of}
@@ -21,13 +21,13 @@ Shorter q = (ts : Stream) (x : Syntax × Stream) → q ts ≡ Some x → left x.
 same_step : (p q others others' : Parser) (ts : Stream) → Falls p → Shorter q → ((us : Stream) → left us < left ts → others us ≡ others' us) → terminated_step p q others ts ≡ terminated_step p q others' ts
 same_step p q others others' ts falls shorter u = ap (λ o. wrap Node (branch (sees ended ts) (Some (Nothing, ts)) o)) (element (p ts) refl)
   where
-    behind : (y : Syntax × Stream) → left y.1 ≤ left ts → (o : Out) → q y.1 ≡ o → and_then o others ≡ and_then o others'
-    behind y h None e = refl
-    behind y h (Some z) e = ap (wrap (Both z.0)) (u z.1 (omega (arith, h, shorter y.1 z e)))
+    following : (y : Syntax × Stream) → left y.1 ≤ left ts → (o : Out) → q y.1 ≡ o → and_then o others ≡ and_then o others'
+    following y h None e = refl
+    following y h (Some z) e = ap (wrap (Both z.0)) (u z.1 (omega (arith, h, shorter y.1 z e)))
 
     element : (o : Out) → p ts ≡ o → and_then o (λ r. branch (no (sees ended r)) (and_then (q r) others) (Some (Nothing, r))) ≡ and_then o (λ r. branch (no (sees ended r)) (and_then (q r) others') (Some (Nothing, r)))
     element None e = refl
-    element (Some y) e = ap (λ o. wrap (Both y.0) (branch (no (sees ended y.1)) o (Some (Nothing, y.1)))) (behind y (falls ts y e) (q y.1) refl)
+    element (Some y) e = ap (λ o. wrap (Both y.0) (branch (no (sees ended y.1)) o (Some (Nothing, y.1)))) (following y (falls ts y e) (q y.1) refl)
 
 -- any sufficient depth gives the same list
 same_lists : (p q : Parser) → Falls p → Shorter q → (n m : ℕ) (ts : Stream) → left ts < n → left ts < m → terminated_for n p q ts ≡ terminated_for m p q ts
@@ -77,7 +77,7 @@ record Followed (p q others : Parser) (ts : Stream) (x : Syntax × Stream) : Typ
   rest : Syntax × Stream
   read : p ts ≡ Some first
   separated : q first.1 ≡ Some separator
-  goes_on : others separator.1 ≡ Some rest
+  proceeds : others separator.1 ≡ Some rest
   is : x ≡ (Node (Right (Both first.0 (Left (Both separator.0 rest.0)))), rest.1)
 
 Stepped : (p q others : Parser) (ts : Stream) (x : Syntax × Stream) → Type 0
@@ -87,12 +87,12 @@ inv_step : (p q others : Parser) (ts : Stream) (x : Syntax × Stream) → termin
 unfolding Stepped
 inv_step p q others ts x e = begun (sees ended ts) refl e
   where
-    behind : Parser
-    behind r = branch (no (sees ended r)) (and_then (q r) others) (Some (Nothing, r))
+    following : Parser
+    following r = branch (no (sees ended r)) (and_then (q r) others) (Some (Nothing, r))
 
     rest : (y z : Syntax × Stream) → p ts ≡ Some y → q y.1 ≡ Some z → (o : Out) → others z.1 ≡ o → wrap Node (wrap Right (wrap (Both y.0) (wrap Left (wrap (Both z.0) o)))) ≡ Some x → Followed p q others ts x
     rest y z f g None i k = absurd (cc k)
-    rest y z f g (Some t) i k = record { first = y; separator = z; rest = t; read = f; separated = g; goes_on = i; is = cc }
+    rest y z f g (Some t) i k = record { first = y; separator = z; rest = t; read = f; separated = g; proceeds = i; is = cc }
 
     separated : (y : Syntax × Stream) → p ts ≡ Some y → (o : Out) → q y.1 ≡ o → wrap Node (wrap Right (wrap (Both y.0) (wrap Left (and_then o others)))) ≡ Some x → Followed p q others ts x
     separated y f None g k = absurd (cc k)
@@ -103,11 +103,11 @@ inv_step p q others ts x e = begun (sees ended ts) refl e
     after h y f true l k = inl (record { first = y; begun = h; read = f; ends = l; is = cc })
     after h y f false l k = inr (separated y f (q y.1) refl k)
 
-    element : sees ended ts ≡ false → (o : Out) → p ts ≡ o → wrap Node (wrap Right (and_then o behind)) ≡ Some x → Lone p ts x ⊎ Followed p q others ts x
+    element : sees ended ts ≡ false → (o : Out) → p ts ≡ o → wrap Node (wrap Right (and_then o following)) ≡ Some x → Lone p ts x ⊎ Followed p q others ts x
     element h None f k = absurd (cc k)
     element h (Some y) f k = after h y f (sees ended y.1) refl k
 
-    begun : (b : Bool) → sees ended ts ≡ b → wrap Node (branch b (Some (Nothing, ts)) (and_then (p ts) behind)) ≡ Some x → Stepped p q others ts x
+    begun : (b : Bool) → sees ended ts ≡ b → wrap Node (branch b (Some (Nothing, ts)) (and_then (p ts) following)) ≡ Some x → Stepped p q others ts x
     begun true h k = inl (h, cc)
     begun false h k = inr (element h (p ts) refl k)
 
@@ -115,7 +115,7 @@ ended_is : sees ended end ≡ true
 ended_is = sees_ended end ∙ end_found
 
 pub is_ended : (ts : Stream) → visible ts ≡ true → sees ended ts ≡ true → ts ≡ end
-is_ended ts v h = end_told ts v (sym (sees_ended ts) ∙ h)
+is_ended ts v h = end_known ts v (sym (sees_ended ts) ∙ h)
 
 not_ended : (ts : Stream) → visible ts ≡ true → ts ≢ end → sees ended ts ≡ false
 not_ended ts v n = go (sees ended ts) refl
@@ -142,7 +142,7 @@ some_left ts r m k h l e = let f : left ts ≡ left end = ap left e in omega (ar
 
 -- the parser computes what the relation derives, on visible streams; it never leaves more tokens, and leaves visible ones
 pub record Law (p : Parser) (D : Syntax → Stream → Stream → Type 0) : Type 0 where
-  pub told : (ts : Stream) (s : Syntax) (r : Stream) → visible ts ≡ true → p ts ≡ Some (s, r) → D s ts r
+  pub reported : (ts : Stream) (s : Syntax) (r : Stream) → visible ts ≡ true → p ts ≡ Some (s, r) → D s ts r
   pub found : (ts : Stream) (s : Syntax) (r : Stream) → visible ts ≡ true → D s ts r → p ts ≡ Some (s, r)
   pub falls : Falls p
   pub seen : (s : Syntax) (ts r : Stream) → D s ts r → visible ts ≡ true → visible r ≡ true
@@ -151,44 +151,44 @@ module _ (p q : Parser) (E S : Syntax → Stream → Stream → Type 0) (lp : La
   step_of : (ts : Stream) (x : Syntax × Stream) → terminated p q ts ≡ Some x → Stepped p q (terminated p q) ts x
   step_of ts x e = inv_step p q (terminated p q) ts x (sym (law.is ts) ∙ e)
 
-  lone_told : (ts : Stream) (y : Syntax × Stream) → visible ts ≡ true → p ts ≡ Some y → sees ended y.1 ≡ true → E y.0 ts end
-  lone_told ts y k e l =
-      let a : E y.0 ts y.1 = lp.told ts y.0 y.1 k e in
+  lone_known : (ts : Stream) (y : Syntax × Stream) → visible ts ≡ true → p ts ≡ Some y → sees ended y.1 ≡ true → E y.0 ts end
+  lone_known ts y k e l =
+      let a : E y.0 ts y.1 = lp.reported ts y.0 y.1 k e in
       let b : y.1 ≡ end = is_ended y.1 (lp.seen y.0 ts y.1 a k) l in
       subst (λ z. E y.0 ts z) b a
 
-  told_none : (ts r : Stream) → visible ts ≡ true → terminated p q ts ≡ Some (Node (Left Nothing), r) → ts ≡ end
+  known_none : (ts r : Stream) → visible ts ≡ true → terminated p q ts ≡ Some (Node (Left Nothing), r) → ts ≡ end
   unfolding Stepped
-  told_none ts r k e = go (step_of ts (Node (Left Nothing), r) e)
+  known_none ts r k e = go (step_of ts (Node (Left Nothing), r) e)
     where
       go : Stepped p q (terminated p q) ts (Node (Left Nothing), r) → ts ≡ end
       go (inl (b, f)) = is_ended ts k b
       go (inr (inl l)) = let f = same_tree _ _ _ _ l.is in absurd (cc f)
       go (inr (inr l)) = let f = same_tree _ _ _ _ l.is in absurd (cc f)
 
-  told_last : (s : Syntax) (ts r : Stream) → visible ts ≡ true → terminated p q ts ≡ Some (Node (Right (Both s (Right Nothing))), r) → (ts ≢ end) × E s ts end
+  known_last : (s : Syntax) (ts r : Stream) → visible ts ≡ true → terminated p q ts ≡ Some (Node (Right (Both s (Right Nothing))), r) → (ts ≢ end) × E s ts end
   unfolding Stepped
-  told_last s ts r k e = go (step_of ts (Node (Right (Both s (Right Nothing))), r) e)
+  known_last s ts r k e = go (step_of ts (Node (Right (Both s (Right Nothing))), r) e)
     where
       lone : (y : Syntax × Stream) → s ≡ y.0 → p ts ≡ Some y → sees ended y.1 ≡ true → E s ts end
-      lone y f e l = subst (λ z. E z ts end) (sym f) (lone_told ts y k e l)
+      lone y f e l = subst (λ z. E z ts end) (sym f) (lone_known ts y k e l)
 
       go : Stepped p q (terminated p q) ts (Node (Right (Both s (Right Nothing))), r) → (ts ≢ end) × E s ts end
       go (inl (b, f)) = let f = same_tree _ _ _ _ f in absurd (cc f)
       go (inr (inl l)) = let f = same_tree _ _ _ _ l.is in (not_end ts l.begun, lone l.first (cc f) l.read l.ends)
       go (inr (inr l)) = let f = same_tree _ _ _ _ l.is in absurd (cc f)
 
-  told_more : (s t u : Syntax) (ts r : Stream) → visible ts ≡ true → terminated p q ts ≡ Some (Node (Right (Both s (Left (Both t u)))), r) →
+  known_more : (s t u : Syntax) (ts r : Stream) → visible ts ≡ true → terminated p q ts ≡ Some (Node (Right (Both s (Left (Both t u)))), r) →
       (m n : Stream) × E s ts m × S t m n × (visible n ≡ true) × (terminated p q n ≡ Some (u, r))
   unfolding Stepped
-  told_more s t u ts r k e = go (step_of ts (Node (Right (Both s (Left (Both t u)))), r) e)
+  known_more s t u ts r k e = go (step_of ts (Node (Right (Both s (Left (Both t u)))), r) e)
     where
       followed : (y z x : Syntax × Stream) → s ≡ y.0 → t ≡ z.0 → u ≡ x.0 → r ≡ x.1 → p ts ≡ Some y → q y.1 ≡ Some z → terminated p q z.1 ≡ Some x →
           (m n : Stream) × E s ts m × S t m n × (visible n ≡ true) × (terminated p q n ≡ Some (u, r))
       followed y z x f f' f'' f3 e e' e'' =
-          let a : E y.0 ts y.1 = lp.told ts y.0 y.1 k e in
+          let a : E y.0 ts y.1 = lp.reported ts y.0 y.1 k e in
           let v : visible y.1 ≡ true = lp.seen y.0 ts y.1 a k in
-          let b : S z.0 y.1 z.1 = lq.told y.1 z.0 z.1 v e' in
+          let b : S z.0 y.1 z.1 = lq.reported y.1 z.0 z.1 v e' in
           (y.1, z.1, subst (λ w. E w ts y.1) (sym f) a, subst (λ w. S w y.1 z.1) (sym f') b, lq.seen z.0 y.1 z.1 b v, e'' ∙ same_both x.0 u x.1 r (sym f'') (sym f3))
 
       go : Stepped p q (terminated p q) ts (Node (Right (Both s (Left (Both t u)))), r) →
@@ -198,16 +198,16 @@ module _ (p q : Parser) (E S : Syntax → Stream → Stream → Type 0) (lp : La
       go (inr (inr l)) =
           let f = same_tree _ _ _ _ l.is in
           let f' = same_rest _ _ _ _ l.is in
-          followed l.first l.separator l.rest (cc f) (cc f) (cc f) f' l.read l.separated l.goes_on
+          followed l.first l.separator l.rest (cc f) (cc f) (cc f) f' l.read l.separated l.proceeds
 
   module _ {T P : Type 0} (v : T → Syntax) (w : P → Syntax) where
     -- a parsed list is such a list
-    pub list_told : (l : List (T × P)) (o : Option T) (ts r : Stream) → visible ts ≡ true → terminated p q ts ≡ Some (list_of v w l o, r) → DerivesList E S v w l o ts
-    list_told [] None ts r k e = told_none ts r k e
-    list_told [] (Some x) ts r k e = told_last (v x) ts r k e
-    list_told (x ∷ l) o ts r k e =
-        let a = told_more (v x.0) (w x.1) (list_of v w l o) ts r k e in
-        (a.0, a.1, a.2, a.3, list_told l o a.1 r a.4 a.5)
+    pub list_known : (l : List (T × P)) (o : Option T) (ts r : Stream) → visible ts ≡ true → terminated p q ts ≡ Some (list_of v w l o, r) → DerivesList E S v w l o ts
+    list_known [] None ts r k e = known_none ts r k e
+    list_known [] (Some x) ts r k e = known_last (v x) ts r k e
+    list_known (x ∷ l) o ts r k e =
+        let a = known_more (v x.0) (w x.1) (list_of v w l o) ts r k e in
+        (a.0, a.1, a.2, a.3, list_known l o a.1 r a.4 a.5)
 
     -- such a list is parsed
     pub list_found : Shorter q → (l : List (T × P)) (o : Option T) (ts : Stream) → visible ts ≡ true → DerivesList E S v w l o ts → terminated p q ts ≡ Some (list_of v w l o, end)
@@ -251,19 +251,19 @@ module _ (p q : Parser) (E S : Syntax → Stream → Stream → Type 0) (lp : La
           let u : x.1 ≡ ts = ap (λ (y : Syntax × Stream). y.1) f in
           (record { pairs = []; last = None }, t, u ∙ a, a)
       go (inr (inl l)) ih =
-          let a : E l.first.0 ts end = lone_told ts l.first k l.read l.ends in
-          let b : l.first.1 ≡ end = is_ended l.first.1 (lp.seen l.first.0 ts l.first.1 (lp.told ts l.first.0 l.first.1 k l.read) k) l.ends in
+          let a : E l.first.0 ts end = lone_known ts l.first k l.read l.ends in
+          let b : l.first.1 ≡ end = is_ended l.first.1 (lp.seen l.first.0 ts l.first.1 (lp.reported ts l.first.0 l.first.1 k l.read) k) l.ends in
           let t : x.0 ≡ Node (Right (Both l.first.0 (Right Nothing))) = ap (λ (y : Syntax × Stream). y.0) l.is in
           let u : x.1 ≡ l.first.1 = ap (λ (y : Syntax × Stream). y.1) l.is in
           (record { pairs = []; last = Some l.first.0 }, t, u ∙ b, (not_end ts l.begun, a))
       go (inr (inr l)) ih =
-          let a : E l.first.0 ts l.first.1 = lp.told ts l.first.0 l.first.1 k l.read in
+          let a : E l.first.0 ts l.first.1 = lp.reported ts l.first.0 l.first.1 k l.read in
           let v : visible l.first.1 ≡ true = lp.seen l.first.0 ts l.first.1 a k in
-          let b : S l.separator.0 l.first.1 l.separator.1 = lq.told l.first.1 l.separator.0 l.separator.1 v l.separated in
+          let b : S l.separator.0 l.first.1 l.separator.1 = lq.reported l.first.1 l.separator.0 l.separator.1 v l.separated in
           let w : visible l.separator.1 ≡ true = lq.seen l.separator.0 l.first.1 l.separator.1 b v in
           let d : left l.separator.1 < left l.first.1 = shrinks l.first.1 l.separator l.separated in
           let d' : left l.first.1 ≤ left ts = lp.falls ts l.first l.read in
-          let others = ih l.separator.1 l.rest (omega (arith, d, d')) w l.goes_on in
+          let others = ih l.separator.1 l.rest (omega (arith, d, d')) w l.proceeds in
           let t : x.0 ≡ Node (Right (Both l.first.0 (Left (Both l.separator.0 l.rest.0)))) = ap (λ (y : Syntax × Stream). y.0) l.is in
           let u : x.1 ≡ l.rest.1 = ap (λ (y : Syntax × Stream). y.1) l.is in (
             record { pairs = (l.first.0, l.separator.0) ∷ others.0.pairs; last = others.0.last },
@@ -287,7 +287,7 @@ list_falls_for p q falls shorter law (suc n) ts x h e = go (inv_step p q (termin
     go (inr (inr l)) ih =
         let d : left l.separator.1 < left l.first.1 = shorter l.first.1 l.separator l.separated in
         let d' : left l.first.1 ≤ left ts = falls ts l.first l.read in
-        let c : left l.rest.1 ≤ left l.separator.1 = ih l.separator.1 l.rest (omega (arith, d, d')) l.goes_on in
+        let c : left l.rest.1 ≤ left l.separator.1 = ih l.separator.1 l.rest (omega (arith, d, d')) l.proceeds in
         let a : x.1 ≡ l.rest.1 = ap (λ (y : Syntax × Stream). y.1) l.is in
         rw a (omega (arith, d, d', c))
 

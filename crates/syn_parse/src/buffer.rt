@@ -6,7 +6,7 @@ ghost use Rattle.syn_grammar.specs.Take.{left, sees, take_group};
 ghost use Rattle.syn_parse.specs.Form.{meets, parse};
 ghost use Rattle.syn_grammar.specs.Promises.{Computes, Takes, Finished};
 ghost use Rattle.syn_parse.specs.Refusals.{IsSyntax};
-ghost use Rattle.syn_parse.specs.Nexts.{StandsNext, RefusedNext};
+ghost use Rattle.syn_parse.specs.Nexts.{IsNext, RefusedNext};
 ghost use Rattle.syn_tokens.specs.Punct.{is_joint};
 ghost use Rattle.syn_parse.specs.Peeks.{past};
 ghost use Rattle.syn_parse.specs.Peeks as peeks;
@@ -87,7 +87,7 @@ fn past_mark<'a>(punct: &Punct, rest: Cursor<'a>) -> Cursor<'a>
         return rest;
     }
     match rest.split() {
-        Some((TokenTreeRef::Ident(_), behind)) => behind,
+        Some((TokenTreeRef::Ident(_), following)) => following,
         Some((TokenTreeRef::Literal(_), _)) => rest,
         Some((TokenTreeRef::Punct(_), _)) => rest,
         Some((TokenTreeRef::Group(_), _)) => rest,
@@ -177,9 +177,9 @@ impl<'a> ParseBuffer<'a> {
 
     /// The span of the next token; at the end of a group the closing delimiter, at the end of a stream the empty span after its
     /// last tree.
-    #[tactic(auto, using(crate::proofs::Nexts::first_stands))]
+    #[tactic(auto, using(crate::proofs::Nexts::first_present))]
     pub fn span(&self) -> Span
-        ensures { StandsNext self.now result }
+        ensures { IsNext self.now result }
     {
         match self.tokens.split() {
             Some((next, _)) => next.span(),
@@ -237,9 +237,9 @@ impl<'a> ParseBuffer<'a> {
     }
 
     /// The refusal for a token after the next tree other than the expected one.
-    pub fn refusal_behind(&self, text: &'static str) -> Refusal
+    pub fn refusal_after(&self, text: &'static str) -> Refusal
         ensures syntax { IsSyntax result }
-        ensures behind { RefusedNext (past self.now) text.now result }
+        ensures following { RefusedNext (past self.now) text.now result }
     {
         self.past().refusal(text)
     }

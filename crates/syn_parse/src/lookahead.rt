@@ -1,7 +1,7 @@
 //! Lookahead at one position of a buffer, with an error for all that was tried.
 ghost use Rattle.std.specs.Prelude.{◌≡◌, [], ◌∷◌, ◌++◌, ◌≤◌, length, take};
 ghost use Rattle.syn_parse.specs.Form.{meets};
-ghost use Rattle.syn_parse.specs.Looked.{HasFaultsNext, MissedBy, texts, told, unexpected};
+ghost use Rattle.syn_parse.specs.Looked.{HasFaultsNext, MissedBy, texts, reported, unexpected};
 
 use crate::buffer::ParseBuffer;
 use crate::read::Peek;
@@ -76,7 +76,7 @@ impl<'a> Lookahead1<'a> {
     /// the first four names; if none was tried, `unexpected token`, or `unexpected end of input` at the end of a group or
     /// stream. It allocates nothing.
     pub fn error(self) -> Error
-        ensures { HasFaultsNext self.entry.stream (told self.entry.stream self.entry.missed) result }
+        ensures { HasFaultsNext self.entry.stream (reported self.entry.stream self.entry.missed) result }
     {
         let here = self.buffer.span();
         let Some((first, others)) = self.missed().split_first() else {

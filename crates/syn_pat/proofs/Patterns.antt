@@ -8,7 +8,7 @@ use Rattle.syn_grammar.proofs.Streams.{append_end}
 use Rattle.syn_tokens.specs.Kinds.{Mut, Ref, Underscore, mut_syntax, ref_syntax, underscore_syntax}
 use Rattle.syn_tokens.specs.Leaves.{maybe}
 use Rattle.syn_lower.specs.Sizes.{tree_size}
-use Rattle.syn_pat.specs.Patterns.{behind_attributes, bound_name, local_pattern}
+use Rattle.syn_pat.specs.Patterns.{after_attributes, bound_name, local_pattern}
 
 -- A NAME, perhaps after `ref` or `mut`
 
@@ -41,21 +41,21 @@ same_bound None None None None s t = and_true (same_syntax s t)
 
 -- AFTER ATTRIBUTES
 
-pub print_after : (attrs s : Syntax) → print (behind_attributes attrs s) ≡ print attrs ⧺ print s
+pub print_after : (attrs s : Syntax) → print (after_attributes attrs s) ≡ print attrs ⧺ print s
 print_after (Node (Right (Unshown Nothing))) s = refl
 print_after attrs s = refl
 
-pub after_smaller : (attrs s : Syntax) → tree_size s ≤ tree_size (behind_attributes attrs s)
+pub after_smaller : (attrs s : Syntax) → tree_size s ≤ tree_size (after_attributes attrs s)
 after_smaller (Node (Right (Unshown Nothing))) s = omega arith
 after_smaller attrs s = omega arith
 
 -- a pattern followed by its type: no attributes are taken for it
 module _ (s t x y : Syntax) where
   abbrev first_typed : Syntax → Syntax
-  first_typed attrs = behind_attributes attrs (Both s (Left x))
+  first_typed attrs = after_attributes attrs (Both s (Left x))
 
   abbrev second_typed : Syntax → Syntax
-  second_typed attrs = behind_attributes attrs (Both t (Left y))
+  second_typed attrs = after_attributes attrs (Both t (Left y))
 
   pub same_typed : (a b : Syntax) → same_syntax (first_typed a) (second_typed b) ≡ and (same_syntax a b) (and (same_syntax s t) (same_syntax x y))
   same_typed (Node (Right (Unshown Nothing))) (Node (Right (Unshown Nothing))) = refl
@@ -63,16 +63,16 @@ module _ (s t x y : Syntax) where
   same_typed a (Node (Right (Unshown Nothing))) = and_false (same_syntax a t)
   same_typed a b = refl
 
-pub typed_apart : (attrs s x t : Syntax) → same_syntax (behind_attributes attrs (Both s (Left x))) (Node t) ≡ false
+pub typed_apart : (attrs s x t : Syntax) → same_syntax (after_attributes attrs (Both s (Left x))) (Node t) ≡ false
 typed_apart (Node (Right (Unshown Nothing))) s x t = refl
 typed_apart attrs s x t = refl
 
-pub apart_typed : (attrs s x t : Syntax) → same_syntax (Node t) (behind_attributes attrs (Both s (Left x))) ≡ false
+pub apart_typed : (attrs s x t : Syntax) → same_syntax (Node t) (after_attributes attrs (Both s (Left x))) ≡ false
 apart_typed (Node (Right (Unshown Nothing))) s x t = refl
 apart_typed attrs s x t = refl
 
 -- `_`
-pub same_wild : (a b : Syntax) (u v : Underscore) → same_syntax (behind_attributes a (underscore_syntax u)) (behind_attributes b (underscore_syntax v)) ≡ and (same_syntax a b) (same_syntax (underscore_syntax u) (underscore_syntax v))
+pub same_wild : (a b : Syntax) (u v : Underscore) → same_syntax (after_attributes a (underscore_syntax u)) (after_attributes b (underscore_syntax v)) ≡ and (same_syntax a b) (same_syntax (underscore_syntax u) (underscore_syntax v))
 same_wild (Node (Right (Unshown Nothing))) (Node (Right (Unshown Nothing))) u v = refl
 same_wild (Node (Right (Unshown Nothing))) b u v = refl
 same_wild a (Node (Right (Unshown Nothing))) u v = refl
@@ -85,15 +85,15 @@ print_local (Node s) = append_end (print s)
 print_local s = refl
 
 -- one without a type, and one with it
-pub untyped_apart : (s attrs t x : Syntax) → same_syntax (Both s (Right Nothing)) (behind_attributes attrs (Both t (Left x))) ≡ false
+pub untyped_apart : (s attrs t x : Syntax) → same_syntax (Both s (Right Nothing)) (after_attributes attrs (Both t (Left x))) ≡ false
 untyped_apart s (Node (Right (Unshown Nothing))) t x = and_false (same_syntax s t)
 untyped_apart s attrs t x = and_false (same_syntax s attrs)
 
-pub apart_untyped : (s attrs t x : Syntax) → same_syntax (behind_attributes attrs (Both t (Left x))) (Both s (Right Nothing)) ≡ false
+pub apart_untyped : (s attrs t x : Syntax) → same_syntax (after_attributes attrs (Both t (Left x))) (Both s (Right Nothing)) ≡ false
 apart_untyped s (Node (Right (Unshown Nothing))) t x = and_false (same_syntax t s)
 apart_untyped s attrs t x = and_false (same_syntax attrs s)
 
 -- a pattern with its type is printed as it is
-pub typed_local : (attrs t x : Syntax) → local_pattern (behind_attributes attrs (Both t (Left x))) ≡ behind_attributes attrs (Both t (Left x))
+pub typed_local : (attrs t x : Syntax) → local_pattern (after_attributes attrs (Both t (Left x))) ≡ after_attributes attrs (Both t (Left x))
 typed_local (Node (Right (Unshown Nothing))) t x = refl
 typed_local attrs t x = refl

@@ -29,8 +29,8 @@ abbrev Step : Syntax → Stream → Type 0
 Step s r = ((w : Syntax) × (c : Syntax) × (t : Syntax) × (m : Stream) × (s ≡ Node (Both w (Left (Both c t)))) × (parse_rule type_words m ≡ Some (t, r)))
     ⊎ ((w : Syntax) × (s ≡ Node (Both w (Right Nothing))))
 
-abbrev behind_word : Stream → Out
-behind_word m = branch (sees at_colons m) (and_then (take_mark colons m) (parse_rule type_words)) (Some (Nothing, m))
+abbrev following_word : Stream → Out
+following_word m = branch (sees at_colons m) (and_then (take_mark colons m) (parse_rule type_words)) (Some (Nothing, m))
 
 module _ (s : Syntax) (r : Stream) where
   others : (w c : Syntax) (m : Stream) (o : Out) → parse_rule type_words m ≡ o → wrap Node (wrap (Both w) (wrap Left (wrap (Both c) o))) ≡ Some (s, r) → Step s r
@@ -41,12 +41,12 @@ module _ (s : Syntax) (r : Stream) where
   colons_and_others w (Some p) h = others w p.0 p.1 (parse_rule type_words p.1) refl h
   colons_and_others w None h = absurd (cc h)
 
-  behind : (w : Syntax) (m : Stream) (b : Bool) → wrap Node (wrap (Both w) (branch b (and_then (take_mark colons m) (parse_rule type_words)) (Some (Nothing, m)))) ≡ Some (s, r) → Step s r
-  behind w m true h = colons_and_others w (take_mark colons m) h
-  behind w m false h = inr (w, sym (ap tree h))
+  following : (w : Syntax) (m : Stream) (b : Bool) → wrap Node (wrap (Both w) (branch b (and_then (take_mark colons m) (parse_rule type_words)) (Some (Nothing, m)))) ≡ Some (s, r) → Step s r
+  following w m true h = colons_and_others w (take_mark colons m) h
+  following w m false h = inr (w, sym (ap tree h))
 
-  first : (o : Out) → wrap Node (and_then o behind_word) ≡ Some (s, r) → Step s r
-  first (Some p) h = behind p.0 p.1 (sees at_colons p.1) h
+  first : (o : Out) → wrap Node (and_then o following_word) ≡ Some (s, r) → Step s r
+  first (Some p) h = following p.0 p.1 (sees at_colons p.1) h
   first None h = absurd (cc h)
 
 step : (ts r : Stream) (s : Syntax) → parse_rule type_words ts ≡ Some (s, r) → Step s r

@@ -11,7 +11,7 @@ use Rattle.syn_tokens.specs.Listing.{list_of}
 use Rattle.syn_lower.specs.Sizes.{tree_size, above, above_falls, split, weight, split_last, weight_last, maybe_falls, list_falls}
 use Rattle.syn_lower.specs.Attributes.{attributes_syntax}
 use Rattle.syn_lower.specs.Types.{syntax_of_Type, tuple_elements}
-use Rattle.syn_pat.specs.Patterns.{behind_attributes, syntax_of_Pat, view_PatParen, view_PatTuple, view_PatTupleStruct, view_PatType}
+use Rattle.syn_pat.specs.Patterns.{after_attributes, syntax_of_Pat, view_PatParen, view_PatTuple, view_PatTupleStruct, view_PatType}
 use Rattle.syn_pat.specs.declared.pat.PatParen.TheDeep.{deep-Pat, deep-PatParen, deep-PatTuple, deep-PatTupleStruct, deep-PatType}
 use Rattle.syn_pat.specs.declared.pat.Pat.TheVariants as Pat-m
 use Rattle.syn_pat.specs.declared.pat.PatParen.TheInside as PatParen-in
@@ -47,7 +47,7 @@ falls_PatTuple a = omega (arith, tuple_falls syntax_of_Pat deep-Pat falls_Pat co
 pub falls_PatTupleStruct : (a : PatTupleStruct-in.Inside) → deep-PatTupleStruct a ≤ tree_size (view_PatTupleStruct a)
 falls_PatTupleStruct a = omega (arith, list_falls syntax_of_Pat deep-Pat falls_Pat comma_syntax a.elems.pairs a.elems.last)
 
-attributes_size : (attrs s : Syntax) → tree_size s ≤ tree_size (behind_attributes attrs s)
+attributes_size : (attrs s : Syntax) → tree_size s ≤ tree_size (after_attributes attrs s)
 attributes_size (Node (Right (Unshown Nothing))) s = omega arith
 attributes_size attrs s = omega arith
 

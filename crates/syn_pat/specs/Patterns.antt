@@ -36,9 +36,9 @@ syntax_of_Pat (Pat-m.Ident p) = Node (Right (Right (Right p)))
 syntax_of_Pat (Pat-m.Ty p) = p
 
 -- what follows attributes, which no parser gives a pattern
-abbrev pub behind_attributes : Syntax → Syntax → Syntax
-behind_attributes (Node (Right (Unshown Nothing))) s = s
-behind_attributes attrs s = Both attrs s
+abbrev pub after_attributes : Syntax → Syntax → Syntax
+after_attributes (Node (Right (Unshown Nothing))) s = s
+after_attributes attrs s = Both attrs s
 
 -- a name alone, or after `ref` or `mut`
 abbrev pub bound_name : Syntax → Syntax → Syntax → Syntax
@@ -65,10 +65,10 @@ abbrev pub view_PatTupleStruct : PatTupleStruct-in.Inside → Syntax
 view_PatTupleStruct a = Both (path_of a.qself a.path) (Left (group_syntax Paren a.paren_token (list_of syntax_of_Pat comma_syntax a.elems.pairs a.elems.last)))
 
 abbrev pub view_PatType : PatType-in.Inside → Syntax
-view_PatType a = behind_attributes (attributes_syntax a.attrs.items) (Both (syntax_of_Pat a.pat.value) (Left (Both (colon_syntax a.colon_token) (syntax_of_Type a.ty.value))))
+view_PatType a = after_attributes (attributes_syntax a.attrs.items) (Both (syntax_of_Pat a.pat.value) (Left (Both (colon_syntax a.colon_token) (syntax_of_Type a.ty.value))))
 
 abbrev pub view_PatWild : PatWild-in.Inside → Syntax
-view_PatWild a = behind_attributes (attributes_syntax a.attrs.items) (underscore_syntax a.underscore_token)
+view_PatWild a = after_attributes (attributes_syntax a.attrs.items) (underscore_syntax a.underscore_token)
 
 -- a pattern, with its type or without one
 abbrev pub local_pattern : Syntax → Syntax

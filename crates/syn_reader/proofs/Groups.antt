@@ -13,7 +13,7 @@ use Rattle.syn_reader.specs.Flat.{Token, opened, closed, flat}
 use Rattle.syn_reader.specs.Spelling.{Piece, IsBlank, IsPieceAt, IsCut, tokens_of, Spells, IsFaultWithin}
 use Rattle.syn_reader.specs.Building.{tokens_around, tokens_so_far, AllWithin, Builds}
 use Rattle.syn_reader.proofs.Flattened.{flat_append}
-use Rattle.syn_reader.proofs.Spelling.{cut_more, cut_blank, tokens_more, stands_within}
+use Rattle.syn_reader.proofs.Spelling.{cut_more, cut_blank, tokens_more, present_within}
 
 -- the tokens around one more group
 around_more : (os : List OpenGroup) (o : OpenGroup)
@@ -105,7 +105,7 @@ pub piece_starts : (text : List ℕ) (p : Piece) (i j k : ℕ) → IsPieceAt tex
 piece_starts text p i j k h e = rw e h.1
 
 pub piece_ends : (text : List ℕ) (p : Piece) (i j k : ℕ) → IsPieceAt text p i j → k ≡ j → k ≤ length text
-piece_ends text p i j k h e = rw e (stands_within h.0 h.1)
+piece_ends text p i j k h e = rw e (present_within h.0 h.1)
 
 -- one more piece was added
 pub builds_more : (text : List ℕ) (old new : TreeBuilder) (i j : ℕ) (p : Piece) (s : Span) → Builds text old i → IsBlank text i s.start → IsPieceAt text p s.start j → s.stop ≡ j

@@ -18,8 +18,8 @@ use Rattle.syn_reader.specs.Places.{BeginsName}
 pound_stops : is_xid_continue 35 ≡ true → ⊥
 pound_stops e = true≢false (sym e ∙ is_xid_continue-ascii 35 (lit< tt))
 
-second_goes_on : (c d : ℕ) (cs ds : List ℕ) → c ∷ d ∷ ds ≡ cs → list_all is_xid_continue (drop 1 cs) ≡ true → is_xid_continue d ≡ true
-second_goes_on c d cs ds e h = left (is_xid_continue d) (list_all is_xid_continue ds) (ap (λ l. list_all is_xid_continue (drop 1 l)) e ∙ h)
+second_continues : (c d : ℕ) (cs ds : List ℕ) → c ∷ d ∷ ds ≡ cs → list_all is_xid_continue (drop 1 cs) ≡ true → is_xid_continue d ≡ true
+second_continues c d cs ds e h = left (is_xid_continue d) (list_all is_xid_continue ds) (ap (λ l. list_all is_xid_continue (drop 1 l)) e ∙ h)
   where
     left : (a b : Bool) → (a && b) ≡ true → a ≡ true
     left true b h = refl
@@ -37,8 +37,8 @@ no_raw (a ∷ []) h = go (nat_eq 114 a)
 no_raw (a ∷ b ∷ l) h = go (nat_eq 114 a) (nat_eq 35 b) refl refl
   where
     raw : (l : List ℕ) → list_all is_xid_continue (drop 1 (chars (114 ∷ 35 ∷ l))) ≡ true → ⊥
-    raw [] k = pound_stops (second_goes_on 114 35 (chars (114 ∷ 35 ∷ [])) [] refl k)
-    raw (d ∷ l) k = pound_stops (second_goes_on 114 35 (chars (114 ∷ 35 ∷ d ∷ l)) (chars (d ∷ l)) refl k)
+    raw [] k = pound_stops (second_continues 114 35 (chars (114 ∷ 35 ∷ [])) [] refl k)
+    raw (d ∷ l) k = pound_stops (second_continues 114 35 (chars (114 ∷ 35 ∷ d ∷ l)) (chars (d ∷ l)) refl k)
 
     go : (u v : Bool) → nat_eq 114 a ≡ u → nat_eq 35 b ≡ v → and u (and v true) ≡ false
     go false v e f = refl
@@ -52,10 +52,10 @@ pub name_is : (x rest : List ℕ) (c : ℕ) → IsUtf8 x → x ≡ encode_utf8 c
 unfolding is_name
 name_is x rest c u e s h = rw (chars_past_char x rest c u e, s, h) refl
 
-goes_on : (cs : List ℕ) → is_name cs ≡ true → list_all is_xid_continue (drop 1 cs) ≡ true
+proceeds : (cs : List ℕ) → is_name cs ≡ true → list_all is_xid_continue (drop 1 cs) ≡ true
 unfolding is_name
-goes_on [] h = absurd (true≢false (sym h))
-goes_on (c ∷ cs) h = right (may_start c) (list_all is_xid_continue cs) h
+proceeds [] h = absurd (true≢false (sym h))
+proceeds (c ∷ cs) h = right (may_start c) (list_all is_xid_continue cs) h
   where
     right : (a b : Bool) → (a && b) ≡ true → b ≡ true
     right true b h = h
@@ -65,7 +65,7 @@ goes_on (c ∷ cs) h = right (may_start c) (list_all is_xid_continue cs) h
 pub name_is_identifier : (x : List ℕ) → is_name (chars x) ≡ true → is_identifier x ≡ true
 unfolding is_identifier without_raw
 name_is_identifier x h =
-    let plain : begins_text (codes "r#") x ≡ false = no_raw x (goes_on (chars x) h) in
+    let plain : begins_text (codes "r#") x ≡ false = no_raw x (proceeds (chars x) h) in
     rw (plain, h) refl
 
 -- `r#` and a name

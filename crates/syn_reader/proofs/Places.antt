@@ -24,5 +24,5 @@ pub boundary_of_rest : (text rest : List ℕ) (i : ℕ) → EndsWith (drop i tex
 boundary_of_rest text rest i e u = boundary_at text rest (i + e.0) (e.1 ∙ drop-drop e.0 i text) u
 
 -- the text after a prefix is a suffix
-pub ends_behind : (text front rest : List ℕ) → text ≡ front ++ rest → EndsWith text rest
-ends_behind text front rest e = (length front, sym (ap (drop (length front)) e ∙ drop-append_seam front rest))
+pub ends_after : (text front rest : List ℕ) → text ≡ front ++ rest → EndsWith text rest
+ends_after text front rest e = (length front, sym (ap (drop (length front)) e ∙ drop-append_seam front rest))

@@ -16,9 +16,9 @@ use Rattle.syn_tokens.specs.Punct.{PunctValue}
 use Rattle.syn_reader.specs.declared.reader.cursor.Cursor.{Cursor}
 use Rattle.syn_reader.specs.declared.reader.lexer.Lexeme.TheVariants.{Punct}
 use Rattle.syn_reader.specs.Places.{left, IsPast}
-use Rattle.syn_reader.specs.Spelling.{Stands}
+use Rattle.syn_reader.specs.Spelling.{Present}
 use Rattle.syn_reader.specs.Lexemes.{IsLexemeFrom}
-use Rattle.syn_reader.specs.Scanning.{behind, begins_comment, first_passes, begins_with, drop_while, after_quote, has_hashes, after_raw, after_raw_string, begins_raw_string, begins_character, begins_byte, behind_suffix, Absent, Scanned, closed, raw_string_at, character_at, prefixed_at, after_b, goes_on_number, after_sign, number_at, decimal_at, after_digits, is_plain, begins_fraction, literal_at, literal_from, lettered, begins_raw_name, after_word}
+use Rattle.syn_reader.specs.Scanning.{following, begins_comment, first_passes, begins_with, drop_while, after_quote, has_hashes, after_raw, after_raw_string, begins_raw_string, begins_character, begins_byte, after_suffix, Absent, Scanned, closed, raw_string_at, character_at, prefixed_at, after_b, continues_number, after_sign, number_at, decimal_at, after_digits, is_plain, begins_fraction, literal_at, literal_from, lettered, begins_raw_name, after_word}
 
 -- one step fewer remains
 pub shorter : (cs ds : List ℕ) (c : ℕ) → cs ≡ c ∷ ds → length ds < length cs
@@ -29,13 +29,13 @@ pub shorter_still : (cs ds es : List ℕ) (c : ℕ) → cs ≡ c ∷ ds → es �
 shorter_still cs ds es c e f = omega (arith, ap length e, ap length f, length-drop 1 ds)
 
 -- nothing remains at the end
-pub left_none : (text : List ℕ) (i : ℕ) → length text ≤ i → behind text i ≡ []
+pub left_none : (text : List ℕ) (i : ℕ) → length text ≤ i → following text i ≡ []
 left_none text i h = ap chars (drop_all i text h) ∙ chars-nil
 
 -- SUFFIXES
 
-pub suffix_there : (cs ds : List ℕ) → first_passes may_start cs ≡ true → ds ≡ drop_while is_xid_continue cs → ds ≡ behind_suffix cs
-unfolding behind_suffix
+pub suffix_there : (cs ds : List ℕ) → first_passes may_start cs ≡ true → ds ≡ drop_while is_xid_continue cs → ds ≡ after_suffix cs
+unfolding after_suffix
 suffix_there cs ds e f = f ∙ sym (cond-true (first_passes may_start cs) (drop_while is_xid_continue cs) cs e)
 
 -- A QUOTE
@@ -122,8 +122,8 @@ hashed_stops {n} {i} {cs} {ds} h l b =
     let less : n - i ≡ suc (n - (i + 1)) = omega arith in
     h.same ∙ (ap (λ k. has_hashes k ds) less ∙ hash_missing (n - (i + 1)) ds b)
 
-pub hashed_stand : {n i : ℕ} {cs ds : List ℕ} → Hashed n i cs ds → n ≤ i → has_hashes n cs ≡ true
-hashed_stand {n} {i} {cs} {ds} h l =
+pub hashed_present : {n i : ℕ} {cs ds : List ℕ} → Hashed n i cs ds → n ≤ i → has_hashes n cs ≡ true
+hashed_present {n} {i} {cs} {ds} h l =
     let none : n - i ≡ 0 = omega arith in
     h.same ∙ (ap (λ k. has_hashes k ds) none ∙ no_hashes ds)
 
@@ -193,7 +193,7 @@ no_character k cs b = cond-false (begins_character cs) _ _ b
 -- NUMBERS
 
 pub based_number : (digit : ℕ) (cs ds : List ℕ) → digit ≡ 48 → (begins_with 120 cs || begins_with 111 cs || begins_with 98 cs) ≡ true
-    → ds ≡ drop_while goes_on_number cs → number_at digit cs ≡ Scanned Int ds
+    → ds ≡ drop_while continues_number cs → number_at digit cs ≡ Scanned Int ds
 unfolding number_at
 based_number digit cs ds e b d =
     cond-true (digit == 48 && (begins_with 120 cs || begins_with 111 cs || begins_with 98 cs)) _ _ (and_from (digit == 48) _ (eq-eqb digit 48 e) b)
@@ -263,17 +263,17 @@ unfolding after_word
 plain_word c cs e = ap (drop_while is_xid_continue) (sym (cond-false (c == 114 && begins_raw_name cs) (drop 2 cs) cs (and_left (c == 114) _ e)))
 
 -- the `'` of a lifetime
-pub lifetime_apostrophe : (start next : Cursor) (p : PunctValue) (s : Span) → IsPast 39 start next → Stands start.text.now (encode_utf8 39) start.offset next.offset
+pub lifetime_apostrophe : (start next : Cursor) (p : PunctValue) (s : Span) → IsPast 39 start next → Present start.text.now (encode_utf8 39) start.offset next.offset
     → begins_character (left next) ≡ false → first_passes may_start (left next) ≡ true → p ≡ record { character = 39; spacing = Joint; span = s }
     → s ≡ record { start = start.offset; end = next.offset } → IsLexemeFrom start.text.now start.offset (Punct p) next.offset
 unfolding begins_comment
-lifetime_apostrophe start next p s past stands b n e f =
-    let same : left next ≡ behind start.text.now next.offset = ap (λ (t : Bor (List ℕ)). behind t.now next.offset) past.0 in
-    let named : first_passes may_start (behind start.text.now next.offset) ≡ true = ap (first_passes may_start) (sym same) ∙ n in
+lifetime_apostrophe start next p s past present b n e f =
+    let same : left next ≡ following start.text.now next.offset = ap (λ (t : Bor (List ℕ)). following t.now next.offset) past.0 in
+    let named : first_passes may_start (following start.text.now next.offset) ≡ true = ap (first_passes may_start) (sym same) ∙ n in
     let mark : ℕ → Span → Type 0 = λ c x. IsLexemeFrom start.text.now start.offset (Punct (record { character = c; spacing = Joint; span = x })) next.offset in
     subst (λ (q : PunctValue). IsLexemeFrom start.text.now start.offset (Punct q) next.offset) (sym e)
     (subst (mark 39) (sym f) (
-      (stands, past.1, (named, ap begins_comment past.2, quote_literal _ _ past.2 ∙ no_character Char _ b, sym named)),
+      (present, past.1, (named, ap begins_comment past.2, quote_literal _ _ past.2 ∙ no_character Char _ b, sym named)),
       refl,
       refl,
     ))

@@ -5,34 +5,34 @@ use Rattle.std.proofs.lemmas.List.{length-append, length-drop, drop-drop}
 use Rattle.std.proofs.lemmas.Str.{NoCharPasses-nil, NoCharPasses-append}
 use Rattle.std.proofs.Math.Seq.{drop-append_seam, take-append_seam}
 use Rattle.syn_grammar.specs.Tokens.{Span}
-use Rattle.syn_reader.specs.Spelling.{Stands, IsBlank, Piece, IsPieceAt, IsCut, tokens_of, all_tokens}
+use Rattle.syn_reader.specs.Spelling.{Present, IsBlank, Piece, IsPieceAt, IsCut, tokens_of, all_tokens}
 
 -- BYTES IN A TEXT
 
 -- what comes before the rest of a text ends where the rest starts
-pub stands_before : (text front rest : List ℕ) (i : ℕ) → i ≤ length text → drop i text ≡ front ++ rest → Stands text front i (length text - length rest)
-stands_before text front rest i h e =
+pub is_before : (text front rest : List ℕ) (i : ℕ) → i ≤ length text → drop i text ≡ front ++ rest → Present text front i (length text - length rest)
+is_before text front rest i h e =
     let l : length text - i ≡ length front + length rest = sym (length-drop i text) ∙ (ap length e ∙ length-append front rest) in
     let j : length text - length rest ≡ i + length front = omega (arith, h, l) in
-    let behind : drop (length text - length rest) text ≡ rest =
+    let following : drop (length text - length rest) text ≡ rest =
     ap (λ n. drop n text) j ∙ (sym (drop-drop (length front) i text) ∙ (ap (drop (length front)) e ∙ drop-append_seam front rest)) in
-    record { split = e ∙ ap (λ r. front ++ r) (sym behind); ends = j }
+    record { split = e ∙ ap (λ r. front ++ r) (sym following); ends = j }
 
-pub stands_append : {text x y : List ℕ} {i j k : ℕ} → Stands text x i j → Stands text y j k → Stands text (x ++ y) i k
-stands_append {text} {x} {y} {i} {j} {k} a b = record {
+pub present_append : {text x y : List ℕ} {i j k : ℕ} → Present text x i j → Present text y j k → Present text (x ++ y) i k
+present_append {text} {x} {y} {i} {j} {k} a b = record {
   split = a.split ∙ (ap (λ r. x ++ r) b.split ∙ sym (append_assoc x y (drop k text)));
   ends = b.ends ∙ (ap (λ n. n + length y) a.ends ∙ omega (arith, length-append x y));
 }
 
 -- no other bytes are there
-pub stands_alone : {text x y : List ℕ} {i j : ℕ} → Stands text x i j → Stands text y i j → x ≡ y
-stands_alone {text} {x} {y} {i} {j} a b =
+pub is_alone : {text x y : List ℕ} {i j : ℕ} → Present text x i j → Present text y i j → x ≡ y
+is_alone {text} {x} {y} {i} {j} a b =
     let l : length x ≡ length y = omega (arith, a.ends, b.ends) in
     sym (take-append_seam x (drop j text)) ∙ (ap (take (length x)) (sym a.split ∙ b.split) ∙ (ap (λ n. take n (y ++ drop j text)) l ∙ take-append_seam y (drop j text)))
 
 -- nonempty bytes in a text end at most at its end
-pub stands_within : {text x : List ℕ} {i j : ℕ} → Stands text x i j → i < j → j ≤ length text
-stands_within {text} {x} {i} {j} h l =
+pub present_within : {text x : List ℕ} {i j : ℕ} → Present text x i j → i < j → j ≤ length text
+present_within {text} {x} {i} {j} h l =
     let e : length text - i ≡ length x + (length text - j) =
     sym (length-drop i text) ∙ (ap length h.split ∙ (length-append x (drop j text) ∙ ap (λ n. length x + n) (length-drop j text))) in
     omega (arith, e, h.ends, l)
@@ -41,7 +41,7 @@ pub blank_here : (text : List ℕ) (i : ℕ) → IsBlank text i i
 blank_here text i = ([], NoCharPasses-nil is_not_whitespace, record { split = refl; ends = omega arith })
 
 pub blank_append : (text : List ℕ) (i j k : ℕ) → IsBlank text i j → IsBlank text j k → IsBlank text i k
-blank_append text i j k a b = (a.0 ++ b.0, NoCharPasses-append is_not_whitespace a.0 b.0 a.1 b.1, stands_append a.2 b.2)
+blank_append text i j k a b = (a.0 ++ b.0, NoCharPasses-append is_not_whitespace a.0 b.0 a.1 b.1, present_append a.2 b.2)
 
 -- PIECES
 

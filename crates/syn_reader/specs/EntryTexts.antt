@@ -23,18 +23,18 @@ entry_text direct (E.Open o) = delimiter_text direct (delimiter_of o.delimiter) 
 entry_text direct (E.Close c) = delimiter_text direct (delimiter_of c.delimiter) (closing_delimiter (delimiter_of c.delimiter))
 
 -- whether the entry after a delimiter follows directly: never after one that is printed
-abbrev pub direct_behind_delimiter : Bool → Delimiter → Bool
-direct_behind_delimiter direct d = if is_visible d then false else direct
+abbrev pub direct_after_delimiter : Bool → Delimiter → Bool
+direct_after_delimiter direct d = if is_visible d then false else direct
 
 -- whether the entry after this one follows directly
-abbrev pub direct_behind : Bool → Entry → Bool
-direct_behind direct (E.Ident i) = false
-direct_behind direct (E.Literal l) = false
-direct_behind direct (E.Punct p) = is_joint p.spacing
-direct_behind direct (E.Open o) = direct_behind_delimiter direct (delimiter_of o.delimiter)
-direct_behind direct (E.Close c) = direct_behind_delimiter direct (delimiter_of c.delimiter)
+abbrev pub direct_after : Bool → Entry → Bool
+direct_after direct (E.Ident i) = false
+direct_after direct (E.Literal l) = false
+direct_after direct (E.Punct p) = is_joint p.spacing
+direct_after direct (E.Open o) = direct_after_delimiter direct (delimiter_of o.delimiter)
+direct_after direct (E.Close c) = direct_after_delimiter direct (delimiter_of c.delimiter)
 
 -- the text of entries in sequence
 abbrev pub entries_text : Bool → List Entry → List ℕ
 entries_text direct [] = []
-entries_text direct (e ∷ es) = entry_text direct e ++ entries_text (direct_behind direct e) es
+entries_text direct (e ∷ es) = entry_text direct e ++ entries_text (direct_after direct e) es

@@ -10,7 +10,7 @@ use Rattle.syn_tokens.specs.Faults.{FaultValue}
 use Rattle.syn_reader.specs.declared.reader.lexer.Lexeme.{Lexeme}
 use Rattle.syn_reader.specs.declared.reader.lexer.Lexeme.TheVariants.{Open, Close, Ident, Literal, Punct, Comment}
 use Rattle.syn_reader.specs.declared.reader.lexer.Lexer.{Lexer}
-use Rattle.syn_reader.specs.Spelling.{Stands, IsBlank, word, constant, mark, opening, closing, opening_delimiter, closing_delimiter, IsPieceAt, IsComment}
+use Rattle.syn_reader.specs.Spelling.{Present, IsBlank, word, constant, mark, opening, closing, opening_delimiter, closing_delimiter, IsPieceAt, IsComment}
 use Rattle.syn_reader.specs.Refusals.{FollowsAsFault}
 
 abbrev pub span_of : Lexeme → Span
@@ -28,7 +28,7 @@ IsCutOut text (Close d s) i j = IsPieceAt text (closing (delimiter_of d)) i j
 IsCutOut text (Ident x s) i j = IsPieceAt text (word x.now) i j
 IsCutOut text (Literal k x s) i j = IsPieceAt text (constant k x.now) i j
 IsCutOut text (Punct p) i j = IsPieceAt text (mark p.character (is_joint p.spacing)) i j
-IsCutOut text (Comment x s) i j = Stands text x.now i j × (i < j) × IsComment text i j
+IsCutOut text (Comment x s) i j = Present text x.now i j × (i < j) × IsComment text i j
 
 -- and its span says so
 abbrev pub IsLexemeFrom : List ℕ → ℕ → Lexeme → ℕ → Type 0

@@ -4,8 +4,8 @@ use Rattle.syn_tokens.specs.Idents.{may_start}
 use Rattle.std.specs.List.{list_all}
 use Rattle.std.specs.Str.{IsUtf8, chars}
 use Rattle.syn_reader.specs.declared.reader.cursor.Cursor.{Cursor}
-use Rattle.syn_reader.specs.Scanning.{behind}
-use Rattle.syn_reader.specs.Spelling.{Stands}
+use Rattle.syn_reader.specs.Scanning.{following}
+use Rattle.syn_reader.specs.Spelling.{Present}
 
 -- the text ends with these bytes
 abbrev pub EndsWith : List ℕ → List ℕ → Type 0
@@ -16,11 +16,11 @@ pub record Skips (test : ℕ → Bool) (text : List ℕ) (i j : ℕ) : Type 0 wh
   pub bytes : List ℕ
   pub utf8 : IsUtf8 bytes
   pub all : list_all test (chars bytes) ≡ true
-  pub stands : Stands text bytes i j
+  pub present : Present text bytes i j
 
 -- the characters after a position
 abbrev pub left : Cursor → List ℕ
-left c = behind c.text.now c.offset
+left c = following c.text.now c.offset
 
 -- the second position is in the same text, and not before the first
 abbrev pub Onward : Cursor → Cursor → Type 0

@@ -5,9 +5,9 @@ use Rattle.syn_grammar.specs.Tokens.{Span, Delimiter}
 use Rattle.syn_tokens.specs.Spans.{at}
 use Rattle.syn_tokens.specs.Idents.{may_start}
 use Rattle.syn_tokens.specs.Faults.{FaultValue}
-use Rattle.syn_reader.specs.Scanning.{behind, literal_from, literal_at, Absent, Unclosed, begins_comment, after_comment}
+use Rattle.syn_reader.specs.Scanning.{following, literal_from, literal_at, Absent, Unclosed, begins_comment, after_comment}
 use Rattle.syn_reader.specs.Flat.{Token, one, punctuation, opened, closed}
-use Rattle.syn_reader.specs.Spelling.{Stands, IsBlank, Piece, closing, opening_delimiter, closing_delimiter, begins_mark, IsPieceAt, IsCut, all_tokens}
+use Rattle.syn_reader.specs.Spelling.{Present, IsBlank, Piece, closing, opening_delimiter, closing_delimiter, begins_mark, IsPieceAt, IsCut, all_tokens}
 
 -- THE OPEN GROUPS
 
@@ -56,7 +56,7 @@ BeginsNone c cs = (is_not_whitespace c ≡ true) × (may_start c ≡ false) × (
 
 -- from byte i to byte j is one character, with which no piece starts
 abbrev pub IsUnexpected : List ℕ → ℕ → ℕ → Type 0
-IsUnexpected text i j = (c : ℕ) × Stands text (encode_utf8 c) i j × (cs : List ℕ) × (behind text i ≡ c ∷ cs) × BeginsNone c cs
+IsUnexpected text i j = (c : ℕ) × Present text (encode_utf8 c) i j × (cs : List ℕ) × (following text i ≡ c ∷ cs) × BeginsNone c cs
 
 -- a closing delimiter that doesn't match the innermost of these groups, or there is none
 abbrev pub NotInnermost : Delimiter → List Opening → Type 0
@@ -66,8 +66,8 @@ NotInnermost d ((e, o) ∷ around) = e ≢ d
 -- No piece starts at byte i, but an unclosed one, or a character that no piece starts with.
 abbrev pub IsLexicalFlaw : List ℕ → Flaw → ℕ → ℕ → Type 0
 IsLexicalFlaw text unexpected i j = IsUnexpected text i j
-IsLexicalFlaw text open_literal i j = literal_at (behind text i) ≡ Unclosed
-IsLexicalFlaw text open_comment i j = (begins_comment (behind text i) ≡ true) × (after_comment (drop 1 (behind text i)) ≡ None)
+IsLexicalFlaw text open_literal i j = literal_at (following text i) ≡ Unclosed
+IsLexicalFlaw text open_comment i j = (begins_comment (following text i) ≡ true) × (after_comment (drop 1 (following text i)) ≡ None)
 IsLexicalFlaw text stray_closing i j = ⊥
 IsLexicalFlaw text open_group i j = ⊥
 

@@ -8,8 +8,8 @@ use Rattle.syn_tokens.specs.declared.literal.LitKind.{LitKind}
 use Rattle.syn_tokens.specs.declared.literal.LitKind.TheVariants.{Str, ByteStr, CStr, Byte, Char, Int, Float}
 
 -- the characters of a text from byte i on
-abbrev pub behind : List ℕ → ℕ → List ℕ
-behind text i = chars (drop i text)
+abbrev pub following : List ℕ → ℕ → List ℕ
+following text i = chars (drop i text)
 
 -- the first one; none at the end of the text
 abbrev pub first_of : List ℕ → Option ℕ
@@ -69,8 +69,8 @@ begins_character [] = false
 begins_character (c ∷ cs) = c == 92 || begins_with 39 cs
 
 -- the characters after the suffix, if there is one
-unfoldable pub behind_suffix : List ℕ → List ℕ
-behind_suffix cs = if first_passes may_start cs then drop_while is_xid_continue cs else cs
+unfoldable pub after_suffix : List ℕ → List ℕ
+after_suffix cs = if first_passes may_start cs then drop_while is_xid_continue cs else cs
 
 -- The literal at the start of a text: none; an unclosed one; or one of this kind, with the characters after it.
 pub data Scan : Type 0 where
@@ -81,7 +81,7 @@ pub data Scan : Type 0 where
 -- a literal of this kind with these characters after its closing quote, if it is closed
 unfoldable pub closed : LitKind → Option (List ℕ) → Scan
 closed k None = Unclosed
-closed k (Some cs) = Scanned k (behind_suffix cs)
+closed k (Some cs) = Scanned k (after_suffix cs)
 
 -- the raw string, from after its prefix letters
 unfoldable pub raw_string_at : LitKind → List ℕ → Scan
@@ -110,8 +110,8 @@ after_b cs = if begins_byte cs then character_at Byte (drop 1 cs) else prefixed_
 abbrev pub is_decimal : ℕ → Bool
 is_decimal c = is_ascii_digit c || c == 95
 
-abbrev pub goes_on_number : ℕ → Bool
-goes_on_number c = is_ascii_alphanumeric c || c == 95
+abbrev pub continues_number : ℕ → Bool
+continues_number c = is_ascii_alphanumeric c || c == 95
 
 -- the characters after the sign of an exponent, or after its letter if it has no sign; none if no digit follows
 unfoldable pub after_sign : List ℕ → Option (List ℕ)
@@ -138,12 +138,12 @@ has_exponent cs = is_some (after_exponent (drop_while is_decimal cs))
 
 -- no letter follows the decimal digits
 unfoldable pub is_plain : List ℕ → Bool
-is_plain cs = not (first_passes goes_on_number (drop_while is_decimal cs))
+is_plain cs = not (first_passes continues_number (drop_while is_decimal cs))
 
 -- the characters after decimal digits, an exponent if one is allowed, and the letters and digits after them
 unfoldable pub after_digits : Bool → List ℕ → List ℕ
 after_digits exponents cs =
-    drop_while goes_on_number (if exponents then or_else (after_exponent (drop_while is_decimal cs)) (drop_while is_decimal cs) else drop_while is_decimal cs)
+    drop_while continues_number (if exponents then or_else (after_exponent (drop_while is_decimal cs)) (drop_while is_decimal cs) else drop_while is_decimal cs)
 
 -- the `.` of a number comes first: no other `.`, no `_` and no identifier follows it
 unfoldable pub begins_fraction : List ℕ → Bool
@@ -159,7 +159,7 @@ decimal_at cs =
 -- a number, from after its first digit
 unfoldable pub number_at : ℕ → List ℕ → Scan
 number_at digit cs =
-    if digit == 48 && (begins_with 120 cs || begins_with 111 cs || begins_with 98 cs) then Scanned Int (drop_while goes_on_number cs) else decimal_at cs
+    if digit == 48 && (begins_with 120 cs || begins_with 111 cs || begins_with 98 cs) then Scanned Int (drop_while continues_number cs) else decimal_at cs
 
 -- LITERALS, WORDS, COMMENTS
 

@@ -9,7 +9,7 @@ use Rattle.syn_tokens.specs.Punct.{is_punct_character}
 use Rattle.syn_tokens.specs.Literals.{kind_of}
 use Rattle.syn_tokens.specs.Faults.{FaultValue}
 use Rattle.syn_tokens.specs.declared.literal.LitKind.{LitKind}
-use Rattle.syn_reader.specs.Scanning.{behind, first_passes, Absent, Scanned, literal_at, after_word, begins_comment, after_comment}
+use Rattle.syn_reader.specs.Scanning.{following, first_passes, Absent, Scanned, literal_at, after_word, begins_comment, after_comment}
 use Rattle.syn_reader.specs.Docs.{IsDoc, IsNoDoc, quoted}
 use Rattle.syn_reader.specs.Flat.{Token, one, punctuation, opened, closed, flat}
 
@@ -18,13 +18,13 @@ abbrev pub begins_by : (ℕ → Bool) → List ℕ → Bool
 begins_by test bytes = first_passes test (chars bytes)
 
 -- these bytes are the text from byte i to byte j
-pub record Stands (text bytes : List ℕ) (i j : ℕ) : Type 0 where
+pub record Present (text bytes : List ℕ) (i j : ℕ) : Type 0 where
   pub split : drop i text ≡ bytes ++ drop j text
   pub ends : j ≡ i + length bytes
 
 -- the text from byte i to byte j is white space or empty
 abbrev pub IsBlank : List ℕ → ℕ → ℕ → Type 0
-IsBlank text i j = (space : List ℕ) × NoCharPasses is_not_whitespace space × Stands text space i j
+IsBlank text i j = (space : List ℕ) × NoCharPasses is_not_whitespace space × Present text space i j
 
 abbrev pub opening_delimiter : Delimiter → List ℕ
 opening_delimiter Paren = codes "("
@@ -68,15 +68,15 @@ begins_mark c rest = if c == 39 then first_passes may_start rest else is_punct_c
 
 -- a comment from byte i to byte j
 abbrev pub IsComment : List ℕ → ℕ → ℕ → Type 0
-IsComment text i j = (begins_comment (behind text i) ≡ true) × (after_comment (drop 1 (behind text i)) ≡ Some (behind text j))
+IsComment text i j = (begins_comment (following text i) ≡ true) × (after_comment (drop 1 (following text i)) ≡ Some (following text j))
 
 -- the conditions on a piece from byte i to byte j, apart from its bytes: it is neither too short nor too long
 abbrev pub IsWhole : List ℕ → Piece → ℕ → ℕ → Type 0
-IsWhole text (word x) i j = (is_identifier x ≡ true) × (literal_at (behind text i) ≡ Absent)
-    × ((c : ℕ) × (rest : List ℕ) × (behind text i ≡ c ∷ rest) × (behind text j ≡ after_word c rest))
-IsWhole text (constant k x) i j = literal_at (behind text i) ≡ Scanned k (behind text j)
-IsWhole text (mark c joint) i j = (begins_mark c (behind text j) ≡ true) × (begins_comment (behind text i) ≡ false) × (literal_at (behind text i) ≡ Absent)
-    × (joint ≡ joint_before c (behind text j))
+IsWhole text (word x) i j = (is_identifier x ≡ true) × (literal_at (following text i) ≡ Absent)
+    × ((c : ℕ) × (rest : List ℕ) × (following text i ≡ c ∷ rest) × (following text j ≡ after_word c rest))
+IsWhole text (constant k x) i j = literal_at (following text i) ≡ Scanned k (following text j)
+IsWhole text (mark c joint) i j = (begins_mark c (following text j) ≡ true) × (begins_comment (following text i) ≡ false) × (literal_at (following text i) ≡ Absent)
+    × (joint ≡ joint_before c (following text j))
 IsWhole text (opening d) i j = is_visible d ≡ true
 IsWhole text (closing d) i j = is_visible d ≡ true
 IsWhole text (comment x) i j = IsComment text i j × IsNoDoc x
@@ -84,7 +84,7 @@ IsWhole text (doc x inner said) i j = IsComment text i j × IsDoc x inner said
 
 -- the piece is there, and is not empty
 abbrev pub IsPieceAt : List ℕ → Piece → ℕ → ℕ → Type 0
-IsPieceAt text p i j = Stands text (bytes_of p) i j × (i < j) × IsWhole text p i j
+IsPieceAt text p i j = Present text (bytes_of p) i j × (i < j) × IsWhole text p i j
 
 -- the tokens of `#[doc = ".."]`, or of `#![doc = ".."]`, all with the span of the comment
 abbrev pub doc_tokens : Bool → List ℕ → Span → List Token

@@ -26,14 +26,14 @@ follows_directly before (group d o c i m) = follows_directly false m
 
 -- The text of a stream, including the space before it; the flag says whether its first tree follows directly. A group is its
 -- two delimiters with its content between them, an invisible group its content alone.
-abbrev pub text_behind : Bool → Stream → List ℕ
-text_behind direct end = []
-text_behind direct (leaf x sp m) = gap direct ++ (spelling_of_leaf x ++ text_behind false m)
-text_behind direct (punct c joint sp m) = gap direct ++ (encode_utf8 c ++ text_behind joint m)
-text_behind direct (group None o c i m) = text_behind direct i ++ text_behind (follows_directly direct i) m
-text_behind direct (group d o c i m) =
-    gap direct ++ (opening_delimiter d ++ (text_behind false i ++ (gap (follows_directly false i) ++ (closing_delimiter d ++ text_behind false m))))
+abbrev pub text_after : Bool → Stream → List ℕ
+text_after direct end = []
+text_after direct (leaf x sp m) = gap direct ++ (spelling_of_leaf x ++ text_after false m)
+text_after direct (punct c joint sp m) = gap direct ++ (encode_utf8 c ++ text_after joint m)
+text_after direct (group None o c i m) = text_after direct i ++ text_after (follows_directly direct i) m
+text_after direct (group d o c i m) =
+    gap direct ++ (opening_delimiter d ++ (text_after false i ++ (gap (follows_directly false i) ++ (closing_delimiter d ++ text_after false m))))
 
 -- the whole text: there is no space before it
 abbrev pub text_of : Stream → List ℕ
-text_of stream = text_behind true stream
+text_of stream = text_after true stream

@@ -12,7 +12,7 @@ use Rattle.syn_grammar.specs.Run.{wrap, and_then, branch, close, named, within, 
 use Rattle.syn_grammar.proofs.Looks.{sees_ended}
 use Rattle.syn_grammar.proofs.Run.{parse_rule_is}
 use Rattle.syn_grammar.proofs.Streams.{append_append}
-use Rattle.syn_grammar.proofs.Takes.{mark_told}
+use Rattle.syn_grammar.proofs.Takes.{mark_known}
 use Rattle.syn_recognize.specs.declared.list.List as list
 use Rattle.syn_recognize.specs.Ordered.{first_form, other_form, member}
 use Rattle.syn_recognize.specs.PrintedRows.{way, row_of}
@@ -29,10 +29,10 @@ wrapped f h w None = refl
 wrapped f h w (Some p) = ap (λ i. Reached (adds w i) p.1) (h w.printing p.0)
 
 -- after what was written before
-pub behind : (i : Stream) (f : Syntax → Syntax) (w : Written) → ((s : Syntax) → way w.printing (f s) ≡ i ⧺ way w.printing s) → (o : Out) → copied w (wrap f o) ≡ copied (adds w i) o
+pub following : (i : Stream) (f : Syntax → Syntax) (w : Written) → ((s : Syntax) → way w.printing (f s) ≡ i ⧺ way w.printing s) → (o : Out) → copied w (wrap f o) ≡ copied (adds w i) o
 unfolding adds
-behind i f w h None = refl
-behind i f w h (Some p) = ap (λ j. Reached (adds w j) p.1) (h p.0) ∙ ap (λ v. Reached v p.1) (sym (adds_more w i (way w.printing p.0)))
+following i f w h None = refl
+following i f w h (Some p) = ap (λ j. Reached (adds w j) p.1) (h p.0) ∙ ap (λ v. Reached v p.1) (sym (adds_more w i (way w.printing p.0)))
 
 -- where no token was read
 pub nothing : (w : Written) (i ts : Stream) → i ≡ end → Reached (adds w i) ts ≡ Reached w ts
@@ -54,7 +54,7 @@ then_is g h w ts = go (parse_form g ts)
   where
     go : (o : Out) → copied w (and_then o (parse_form h)) ≡ next (copied w o) (λ v r. copied v (parse_form h r))
     go None = refl
-    go (Some p) = behind (way w.printing p.0) (Both p.0) w (way_both w.printing p.0) (parse_form h p.1)
+    go (Some p) = following (way w.printing p.0) (Both p.0) w (way_both w.printing p.0) (parse_form h p.1)
 
 pub when_is : (c : Look) (g h : Grammar) (w : Written) (ts : Stream) → copy_form (when c then g else h) w ts ≡ pick (sees c ts) (copy_form g w ts) (copy_form h w ts)
 unfolding copy_form
@@ -104,7 +104,7 @@ abbrev IsMark : Bool → Out → Type 0
 IsMark a o = (p : Syntax × Stream) → o ≡ Some p → spell (marks_of p.0) end ≡ way a p.0
 
 is_mark : (a : Bool) (x : Text) (ts : Stream) → IsMark a (take_mark x ts)
-is_mark a x ts p e = let (xs, i, q, h) = mark_told x ts p e in ap (λ t. spell (marks_of t) end) i ∙ sym (way_mark a xs) ∙ sym (ap (way a) i)
+is_mark a x ts p e = let (xs, i, q, h) = mark_known x ts p e in ap (λ t. spell (marks_of t) end) i ∙ sym (way_mark a xs) ∙ sym (ap (way a) i)
 
 abbrev all_written : Written → Stream → Copy
 all_written v r = pick (no (is_end r)) (Reached (adds v r) end) Refused
@@ -113,13 +113,13 @@ pub rest_is : (x : Text) (w : Written) (ts : Stream) → copy_form (rest_after x
 unfolding copy_form
 rest_is x w ts = go (take_mark x ts) (is_mark w.printing x ts)
   where
-    told : (xs : List (ℕ × Span)) (r : Stream) (b : Bool) → copied w (only b (Some (Rest xs r, end))) ≡ pick b (Reached (adds (adds w (spell xs end)) r) end) Refused
-    told xs r true = ap (λ i. Reached (adds w i) end) (way_rest w.printing xs r ∙ spelled xs r) ∙ ap (λ v. Reached v end) (sym (adds_more w (spell xs end) r))
-    told xs r false = refl
+    reported : (xs : List (ℕ × Span)) (r : Stream) (b : Bool) → copied w (only b (Some (Rest xs r, end))) ≡ pick b (Reached (adds (adds w (spell xs end)) r) end) Refused
+    reported xs r true = ap (λ i. Reached (adds w i) end) (way_rest w.printing xs r ∙ spelled xs r) ∙ ap (λ v. Reached v end) (sym (adds_more w (spell xs end) r))
+    reported xs r false = refl
 
     go : (o : Out) → IsMark w.printing o → copied w (rest_of o) ≡ next (copied w o) all_written
     go None h = refl
-    go (Some p) h = told (marks_of p.0) p.1 (no (is_end p.1)) ∙ ap (λ i. all_written (adds w i) p.1) (h p refl)
+    go (Some p) h = reported (marks_of p.0) p.1 (no (is_end p.1)) ∙ ap (λ i. all_written (adds w i) p.1) (h p refl)
 
 pub rest_more : (x : Text) (w v : Written) (ts r : Stream) → copied w (take_mark x ts) ≡ Reached v r → sees ended r ≡ false → copy_form (rest_after x) w ts ≡ Reached (adds v r) end
 rest_more x w v ts r e h = rest_is x w ts ∙ ap (λ o. next o all_written) e ∙ ap (λ a. pick (no a) (Reached (adds v r) end) Refused) (sym (sees_ended r) ∙ h)
@@ -163,15 +163,15 @@ ordered_is k w ts = go (take_mark less ts) (is_mark a less ts)
     l = rows (member k)
 
     -- of the opening and the closing mark and the list between them
-    told : (x s y : Syntax) (r : Stream) → spell (marks_of x) end ≡ way a x → spell (marks_of y) end ≡ way a y →
+    reported : (x s y : Syntax) (r : Stream) → spell (marks_of x) end ≡ way a x → spell (marks_of y) end ≡ way a y →
         copied w (Some (Order (marks_of x) s (marks_of y), r)) ≡ Reached (adds (adds (adds w (way a x)) (row_of a s)) (way a y)) r
-    told x s y r e f =
+    reported x s y r e f =
         ap (λ i. Reached (adds w i) r) (way_order a (marks_of x) s (marks_of y) ∙ spelled (marks_of x) (row_of a s ⧺ spell (marks_of y) end) ∙ ap₂ (λ i j. i ⧺ (row_of a s ⧺ j)) e f ∙ sym (append_append (way a x) (row_of a s) (way a y)))
         ∙ ap (λ v. Reached v r) (sym (adds_more w (way a x ⧺ row_of a s) (way a y)) ∙ ap (λ v. adds v (way a y)) (sym (adds_more w (way a x) (row_of a s))))
 
     ended : (x s : Syntax) (o : Out) → spell (marks_of x) end ≡ way a x → IsMark a o → copied w (close_row x s o) ≡ copied (adds (adds w (way a x)) (row_of a s)) o
     ended x s None e h = refl
-    ended x s (Some y) e h = told x s y.0 y.1 e (h y refl)
+    ended x s (Some y) e h = reported x s y.0 y.1 e (h y refl)
 
     listed : (x : Syntax) (o : Out) → spell (marks_of x) end ≡ way a x → copied w (row_closed x o) ≡ next (copied_row (adds w (way a x)) o) (λ v r. copied v (take_mark greater r))
     listed x None e = refl

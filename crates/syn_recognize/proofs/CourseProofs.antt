@@ -229,11 +229,11 @@ pub data Parts : Type 0 where
   untagged : Syntax → Parts  -- the value of a piece without the mark that it has no tag
   both : Parts → Parts → Parts
 
-abbrev pub behind : Bool → Stream → Parts → Stream
-behind a i none = i
-behind a i (piece s) = i ⧺ way a s
-behind a i (untagged s) = i ⧺ way a s
-behind a i (both x y) = behind a (behind a i x) y
+abbrev pub following : Bool → Stream → Parts → Stream
+following a i none = i
+following a i (piece s) = i ⧺ way a s
+following a i (untagged s) = i ⧺ way a s
+following a i (both x y) = following a (following a i x) y
 
 abbrev pub text : Bool → Parts → Stream
 text a none = end
@@ -241,8 +241,8 @@ text a (piece s) = way a s
 text a (untagged s) = way a (untag s)
 text a (both x y) = text a x ⧺ text a y
 
-pub text_behind : (a : Bool) (i : Stream) (x : Parts) → i ⧺ text a x ≡ behind a i x
-text_behind a i none = append_end i
-text_behind a i (piece s) = refl
-text_behind a i (untagged s) = ap (λ z. i ⧺ z) (way_shape no-tag a s)
-text_behind a i (both x y) = sym (append_append i (text a x) (text a y)) ∙ ap (λ z. z ⧺ text a y) (text_behind a i x) ∙ text_behind a (behind a i x) y
+pub text_after : (a : Bool) (i : Stream) (x : Parts) → i ⧺ text a x ≡ following a i x
+text_after a i none = append_end i
+text_after a i (piece s) = refl
+text_after a i (untagged s) = ap (λ z. i ⧺ z) (way_shape no-tag a s)
+text_after a i (both x y) = sym (append_append i (text a x) (text a y)) ∙ ap (λ z. z ⧺ text a y) (text_after a i x) ∙ text_after a (following a i x) y

@@ -6,8 +6,8 @@ use Rattle.syn_grammar.specs.Grammar.{Syntax, Node, Group, show, print, plain_sy
 use Rattle.syn_grammar.specs.Take.{Out, Opened, only, is_end, take_group}
 use Rattle.syn_grammar.specs.Run.{wrap, close, within, parse_rule}
 use Rattle.syn_grammar.specs.Same.{same_stream, same_syntax}
-use Rattle.syn_grammar.specs.StandsAlone.{reads_shown, stands_alone}
-use Rattle.syn_grammar.proofs.Shows.{show_is_read, show_stands_alone, same_show}
+use Rattle.syn_grammar.specs.IsAlone.{reads_shown, is_alone}
+use Rattle.syn_grammar.proofs.Shows.{show_is_read, show_is_alone, same_show}
 use Rattle.syn_grammar.proofs.Same.{same_stream_plain, same_syntax_plain}
 use Rattle.syn_grammar.proofs.Takes.{end_found}
 use Rattle.syn_grammar.proofs.Each.{block_is}
@@ -34,15 +34,15 @@ abbrev Written : Rule → Stream → Stream → Stream → Stream → Type 0
 Written k ts source printed r = (s : Syntax) × (parse_rule k ts ≡ Some (s, r)) × (source ≡ show s) × (printed ≡ print s)
 
 -- what was read before a rest is stored, and so is what was read as a whole
-alone : (k : Rule) → stands_alone k ≡ true → (ts source printed r : Stream) → Written k ts source printed r → IsDeferred k source printed × (parse_rule k ts ≡ Some (read_as k source, r))
+alone : (k : Rule) → is_alone k ≡ true → (ts source printed r : Stream) → Written k ts source printed r → IsDeferred k source printed × (parse_rule k ts ≡ Some (read_as k source, r))
 alone k v ts source printed r (s, e, h, p) =
-    let d = kept k s source printed h p (show_stands_alone k v ts s r e) in
+    let d = kept k s source printed h p (show_is_alone k v ts s r e) in
     (d.0, e ∙ ap (λ t. Some (t, r)) (sym d.1))
 
-pub alone_is_deferred : (k : Rule) → stands_alone k ≡ true → (ts source printed r : Stream) → Written k ts source printed r → IsDeferred k source printed
+pub alone_is_deferred : (k : Rule) → is_alone k ≡ true → (ts source printed r : Stream) → Written k ts source printed r → IsDeferred k source printed
 alone_is_deferred k v ts source printed r w = (alone k v ts source printed r w).0
 
-pub alone_read : (k : Rule) → stands_alone k ≡ true → (ts source printed r : Stream) → Written k ts source printed r → parse_rule k ts ≡ Some (read_as k source, r)
+pub alone_read : (k : Rule) → is_alone k ≡ true → (ts source printed r : Stream) → Written k ts source printed r → parse_rule k ts ≡ Some (read_as k source, r)
 alone_read k v ts source printed r w = (alone k v ts source printed r w).1
 
 whole : (k : Rule) → reads_shown k ≡ true → (ts source printed r : Stream) → Written k ts source printed r → r ≡ end → IsDeferred k source printed × (whole_only (parse_rule k ts) ≡ Some (read_as k source, r))

@@ -24,48 +24,48 @@ known =
     ∷ bit_xor ∷ bit_ors ∷ bit_or ∷ compared ∷ comparison ∷ conjunctions ∷ conjunction ∷ disjunctions ∷ disjunction ∷ assigned ∷ whole_expression
     ∷ more_type_words ∷ whole_expression_head ∷ disjunction_head ∷ assigned_head ∷ conjunction_head ∷ disjunctions_head ∷ comparison_head ∷ conjunctions_head ∷ bit_or_head ∷ compared_head ∷ bit_xor_head ∷ bit_ors_head ∷ bit_and_head ∷ bit_xors_head ∷ shift_head ∷ bit_ands_head ∷ sum_head ∷ shifts_head ∷ product_head ∷ sums_head ∷ cast_head ∷ products_head ∷ unary_head ∷ primary_head ∷ []
 
-abbrev pub told_of : List Rule → Bool
-told_of [] = true
-told_of (k ∷ ks) = and (among k known) (told_of ks)
+abbrev pub known_of : List Rule → Bool
+known_of [] = true
+known_of (k ∷ ks) = and (among k known) (known_of ks)
 
-abbrev pub tells : Grammar → Bool
-tells empty = true
-tells (token b k) = true
-tells (mark b cs) = true
-tells lifetime = true
-tells (g & h) = and (tells g) (tells h)
-tells (when c then g else h) = and (tells g) (tells h)
-tells (inside d g) = true
-tells (raw d) = true
-tells (either g h) = and (tells g) (tells h)
-tells (one_of ks) = told_of ks
-tells (rule k) = among k known
-tells (such q g) = tells g
-tells (shaped j g) = tells g
-tells unshown = true
-tells (ordered g h) = true
-tells _ = false
+abbrev pub settles : Grammar → Bool
+settles empty = true
+settles (token b k) = true
+settles (mark b cs) = true
+settles lifetime = true
+settles (g & h) = and (settles g) (settles h)
+settles (when c then g else h) = and (settles g) (settles h)
+settles (inside d g) = true
+settles (raw d) = true
+settles (either g h) = and (settles g) (settles h)
+settles (one_of ks) = known_of ks
+settles (rule k) = among k known
+settles (such q g) = settles g
+settles (shaped j g) = settles g
+settles unshown = true
+settles (ordered g h) = true
+settles _ = false
 
-abbrev all_tell : List Rule → Bool
-all_tell [] = true
-all_tell (k ∷ ks) = and (tells (table k)) (all_tell ks)
+abbrev all_settle : List Rule → Bool
+all_settle [] = true
+all_settle (k ∷ ks) = and (settles (table k)) (all_settle ks)
 
-in_list : (ks : List Rule) (k : Rule) → among k ks ≡ true → all_tell ks ≡ true → tells (table k) ≡ true
+in_list : (ks : List Rule) (k : Rule) → among k ks ≡ true → all_settle ks ≡ true → settles (table k) ≡ true
 in_list [] k e h = absurd (true≢false (sym e))
 in_list (l ∷ ks) k e h = go (or_split (same_rule k l) (among k ks) e) (in_list ks k)
   where
-    go : (same_rule k l ≡ true) ⊎ (among k ks ≡ true) → (among k ks ≡ true → all_tell ks ≡ true → tells (table k) ≡ true) → tells (table k) ≡ true
-    go (inl s) more = ap (λ z. tells (table z)) (same_rule_eq k l s) ∙ and_left (tells (table l)) _ h
-    go (inr s) more = more s (and_right (tells (table l)) _ h)
+    go : (same_rule k l ≡ true) ⊎ (among k ks ≡ true) → (among k ks ≡ true → all_settle ks ≡ true → settles (table k) ≡ true) → settles (table k) ≡ true
+    go (inl s) more = ap (λ z. settles (table z)) (same_rule_eq k l s) ∙ and_left (settles (table l)) _ h
+    go (inr s) more = more s (and_right (settles (table l)) _ h)
 
-pub known_tells : (k : Rule) → among k known ≡ true → tells (table k) ≡ true
-known_tells k e = in_list known k e refl
+pub known_settles : (k : Rule) → among k known ≡ true → settles (table k) ≡ true
+known_settles k e = in_list known k e refl
 
-pub named : (ks : List Rule) (k : Rule) → among k ks ≡ true → told_of ks ≡ true → among k known ≡ true
+pub named : (ks : List Rule) (k : Rule) → among k ks ≡ true → known_of ks ≡ true → among k known ≡ true
 named [] k e h = absurd (true≢false (sym e))
 named (l ∷ ks) k e h = go (or_split (same_rule k l) (among k ks) e) (named ks k)
   where
-    go : (same_rule k l ≡ true) ⊎ (among k ks ≡ true) → (among k ks ≡ true → told_of ks ≡ true → among k known ≡ true) → among k known ≡ true
+    go : (same_rule k l ≡ true) ⊎ (among k ks ≡ true) → (among k ks ≡ true → known_of ks ≡ true → among k known ≡ true) → among k known ≡ true
     go (inl s) more = ap (λ z. among z known) (same_rule_eq k l s) ∙ and_left (among l known) _ h
     go (inr s) more = more s (and_right (among l known) _ h)
 

@@ -6,18 +6,18 @@ use Rattle.syn_grammar.specs.Table.{at_ampersand, at_any_literal, at_brace, at_b
 use Rattle.syn_grammar.specs.Take.{sees}
 
 -- a row of conditions, in parts
-pub behind_six : (a b c d e f x : Bool) → or a (or b (or c (or d (or e (or f x))))) ≡ or (or a (or b (or c (or d (or e f))))) x
-behind_six true b c d e f x = refl
-behind_six false true c d e f x = refl
-behind_six false false true d e f x = refl
-behind_six false false false true e f x = refl
-behind_six false false false false true f x = refl
-behind_six false false false false false f x = refl
+pub after_six : (a b c d e f x : Bool) → or a (or b (or c (or d (or e (or f x))))) ≡ or (or a (or b (or c (or d (or e f))))) x
+after_six true b c d e f x = refl
+after_six false true c d e f x = refl
+after_six false false true d e f x = refl
+after_six false false false true e f x = refl
+after_six false false false false true f x = refl
+after_six false false false false false f x = refl
 
-behind_eight : (a b c d e f g h x : Bool) → or a (or b (or c (or d (or e (or f (or g (or h x))))))) ≡ or (or a (or b (or c (or d (or e (or f (or g h))))))) x
-behind_eight true b c d e f g h x = refl
-behind_eight false true c d e f g h x = refl
-behind_eight false false c d e f g h x = behind_six c d e f g h x
+after_eight : (a b c d e f g h x : Bool) → or a (or b (or c (or d (or e (or f (or g (or h x))))))) ≡ or (or a (or b (or c (or d (or e (or f (or g h))))))) x
+after_eight true b c d e f g h x = refl
+after_eight false true c d e f g h x = refl
+after_eight false false c d e f g h x = after_six c d e f g h x
 
 abbrev literal_or_path : Look
 literal_or_path = at_any_literal or_else at_word w_true or_else at_word w_false or_else at_path_word or_else at_colons or_else at_less
@@ -31,8 +31,8 @@ group_or_sign = at_paren or_else at_bracket or_else at_brace or_else at_minus or
 pub whole_expression_seen : (ts : Stream) → sees at_whole_expression ts ≡ or (sees literal_or_path ts) (or (sees expression_word ts) (sees group_or_sign ts))
 unfolding sees
 whole_expression_seen ts =
-    behind_six (sees at_any_literal ts) (sees (at_word w_true) ts) (sees (at_word w_false) ts) (sees at_path_word ts) (sees at_colons ts) (sees at_less ts) _
-    ∙ ap (or (sees literal_or_path ts)) (behind_eight (sees (at_word w_if) ts) (sees (at_word w_loop) ts) (sees (at_word w_while) ts) (sees (at_word w_for) ts) (sees (at_word w_unsafe) ts) (sees (at_word w_return) ts) (sees (at_word w_break) ts) (sees (at_word w_continue) ts) (sees group_or_sign ts))
+    after_six (sees at_any_literal ts) (sees (at_word w_true) ts) (sees (at_word w_false) ts) (sees at_path_word ts) (sees at_colons ts) (sees at_less ts) _
+    ∙ ap (or (sees literal_or_path ts)) (after_eight (sees (at_word w_if) ts) (sees (at_word w_loop) ts) (sees (at_word w_while) ts) (sees (at_word w_for) ts) (sees (at_word w_unsafe) ts) (sees (at_word w_return) ts) (sees (at_word w_break) ts) (sees (at_word w_continue) ts) (sees group_or_sign ts))
 
 abbrev postfix : Look
 postfix = at_paren or_else at_bracket or_else at_question or_else at_dot

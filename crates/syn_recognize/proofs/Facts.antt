@@ -9,9 +9,9 @@ abbrev pub asks : Fact → Asked → Bool
 asks n [] = false
 asks n (p ∷ l) = or (same_fact n p.1) (asks n l)
 
-pub not_told : (n : Fact) (l : Asked) (f : Lookahead) → asks n l ≡ false → has_fact n (facts_for l f) ≡ false
-not_told n [] f e = refl
-not_told n (p ∷ l) f e = go (answers p.0 f) (same_fact n p.1) refl (not_told n l f)
+pub not_known : (n : Fact) (l : Asked) (f : Lookahead) → asks n l ≡ false → has_fact n (facts_for l f) ≡ false
+not_known n [] f e = refl
+not_known n (p ∷ l) f e = go (answers p.0 f) (same_fact n p.1) refl (not_known n l f)
   where
     go : (a b : Bool) → same_fact n p.1 ≡ b → (asks n l ≡ false → has_fact n (facts_for l f) ≡ false) → has_fact n (pick a (p.1 ∷ facts_for l f) (facts_for l f)) ≡ false
     go a true q h = absurd (true≢false (ap (λ z. or z (asks n l)) (sym q) ∙ e))
@@ -19,12 +19,12 @@ not_told n (p ∷ l) f e = go (answers p.0 f) (same_fact n p.1) refl (not_told n
     go false false q h = h (ap (λ z. or z (asks n l)) (sym q) ∙ e)
 
 -- of a condition that is stated first, without others after it
-pub told_first : (n : Fact) (c : Look) (l : Asked) (f : Lookahead) → same_fact n n ≡ true → asks n l ≡ false → has_fact n (facts_for ((c, n) ∷ l) f) ≡ answers c f
-told_first n c l f r e = go (answers c f)
+pub reported_first : (n : Fact) (c : Look) (l : Asked) (f : Lookahead) → same_fact n n ≡ true → asks n l ≡ false → has_fact n (facts_for ((c, n) ∷ l) f) ≡ answers c f
+reported_first n c l f r e = go (answers c f)
   where
     go : (a : Bool) → has_fact n (pick a (n ∷ facts_for l f) (facts_for l f)) ≡ a
     go true = ap (λ z. or z (has_fact n (facts_for l f))) r
-    go false = not_told n l f e
+    go false = not_known n l f e
 
 -- an identifier's terminal is this word's only where that is its text
 pub word_face : (w x : Text) → is_word w (leaf_terminal (ident x)) ≡ true → x ≡ w

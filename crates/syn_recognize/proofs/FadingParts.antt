@@ -9,7 +9,7 @@ use Rattle.syn_grammar.specs.Take.{Out, sees, take_mark}
 use Rattle.syn_grammar.specs.Run.{and_then, branch, first_of, parse_form, parse_rule, vanish, wrap, rows, row_opened, row_closed, close_row, row_member, row_after, row_comma, marks_of, last, more, span_of}
 use Rattle.syn_grammar.proofs.Each.{lifetimes_is, parameter_bounds_is, predicates_is, supertraits_is, type_bounds_is}
 use Rattle.syn_grammar.proofs.Run.{inv_wrap, inv_then}
-use Rattle.syn_grammar.proofs.Takes.{TreeAndRest, mark_told, token_told}
+use Rattle.syn_grammar.proofs.Takes.{TreeAndRest, mark_known, token_known}
 use Rattle.syn_tokens.specs.Leaves.{is_known_word}
 use Rattle.syn_parse.proofs.Words.{fits_word}
 use Rattle.syn_recognize.specs.declared.fading.Fading as fading
@@ -23,7 +23,7 @@ use Rattle.syn_recognize.specs.Written.{Written, adds}
 use Rattle.syn_recognize.specs.Copies.{Reached, Refused, copied, copy_form, next}
 use Rattle.syn_recognize.proofs.Copied.{nothing, then_is}
 use Rattle.syn_recognize.proofs.Solid.{NeverBare, never_bare, rule_never_bare, shown, shows}
-use Rattle.syn_recognize.proofs.Lists.{none_stands, one_stands}
+use Rattle.syn_recognize.proofs.Lists.{none_present, one_present}
 
 -- WHAT IS STORED OF SUCH A PART
 
@@ -86,11 +86,11 @@ yes false h = absurd (cc h)
 
 head_bare : (k : fading.Fading) (ts : Stream) (x : TreeAndRest) → parse_form (head_form k) ts ≡ Some x → bare x.0 ≡ true
 unfolding is_known_word
-head_bare Fading-m.Lifetimes ts x e = let z = mark_told colon ts x e in ap bare z.1 ∙ ap (λ l. same_text l colon) z.2
-head_bare Fading-m.Bounds ts x e = let z = mark_told colon ts x e in ap bare z.1 ∙ ap (λ l. same_text l colon) z.2
-head_bare Fading-m.Supertraits ts x e = let z = mark_told colon ts x e in ap bare z.1 ∙ ap (λ l. same_text l colon) z.2
-head_bare Fading-m.TypeBounds ts x e = let z = mark_told colon ts x e in ap bare z.1 ∙ ap (λ l. same_text l colon) z.2
-head_bare Fading-m.Predicates ts x e = let (y, sp, i, f, j) = token_told (word w_where) ts x e in ap bare i ∙ go y f
+head_bare Fading-m.Lifetimes ts x e = let z = mark_known colon ts x e in ap bare z.1 ∙ ap (λ l. same_text l colon) z.2
+head_bare Fading-m.Bounds ts x e = let z = mark_known colon ts x e in ap bare z.1 ∙ ap (λ l. same_text l colon) z.2
+head_bare Fading-m.Supertraits ts x e = let z = mark_known colon ts x e in ap bare z.1 ∙ ap (λ l. same_text l colon) z.2
+head_bare Fading-m.TypeBounds ts x e = let z = mark_known colon ts x e in ap bare z.1 ∙ ap (λ l. same_text l colon) z.2
+head_bare Fading-m.Predicates ts x e = let (y, sp, i, f, j) = token_known (word w_where) ts x e in ap bare i ∙ go y f
   where
     go : (y : Leaf) → fits (word w_where) y ≡ true → bare_leaf y ≡ true
     go (ident z) f = sym (fits_word w_where z refl) ∙ f
@@ -191,7 +191,7 @@ parameters_never x m ts h s = subst NeverBare (sym (ap (λ o. row_opened o (rows
         closing (Some z) = λ y i. ap tree_bare (sym i) ∙ n p refl
 
     some : NeverBare (rows (member List-m.Parameters) m)
-    some = subst NeverBare (sym (one_stands List-m.Parameters m s)) (one (parse_form (first_form List-m.Parameters) m) (parse_form (other_form List-m.Parameters) m))
+    some = subst NeverBare (sym (one_present List-m.Parameters m s)) (one (parse_form (first_form List-m.Parameters) m) (parse_form (other_form List-m.Parameters) m))
       where
         bare_in : Out → Bool
         bare_in (Some t) = bare t.0
@@ -240,12 +240,12 @@ module _ (c : Look) (w : Written) (ts : Stream) where
 
   pub generics_bare : (x y : Syntax) (m r : Stream) → sees c ts ≡ true → w.printing ≡ true → take_mark less ts ≡ Some (x, m) → sees at_row_end m ≡ true → take_mark greater m ≡ Some (y, r) → copy_form (vanishing false c parameters) w ts ≡ Reached w r
   generics_bare x y m r e p h s g =
-      opened x m e h ∙ ap (λ o. copied w (vanish false (wrap Left (row_closed x o)))) (none_stands List-m.Parameters m s)
+      opened x m e h ∙ ap (λ o. copied w (vanish false (wrap Left (row_closed x o)))) (none_present List-m.Parameters m s)
       ∙ ap (λ o. copied w (vanish false (wrap Left (close_row x Done o)))) g ∙ bare_gone w (Order (marks_of x) Done (marks_of y)) r p refl
 
   pub generics_open : (x : Syntax) (m : Stream) → sees c ts ≡ true → take_mark less ts ≡ Some (x, m) → sees at_row_end m ≡ true → take_mark greater m ≡ None → copy_form (vanishing false c parameters) w ts ≡ Refused
   generics_open x m e h s g =
-      opened x m e h ∙ ap (λ o. copied w (vanish false (wrap Left (row_closed x o)))) (none_stands List-m.Parameters m s)
+      opened x m e h ∙ ap (λ o. copied w (vanish false (wrap Left (row_closed x o)))) (none_present List-m.Parameters m s)
       ∙ ap (λ o. copied w (vanish false (wrap Left (close_row x Done o)))) g
 
   pub generics_kept : (x : Syntax) (m : Stream) → sees c ts ≡ true → take_mark less ts ≡ Some (x, m) → sees at_row_end m ≡ false → copy_form (vanishing false c parameters) w ts ≡ copy_form parameters w ts

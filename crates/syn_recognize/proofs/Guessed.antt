@@ -4,7 +4,7 @@ use Rattle.syn_grammar.specs.Tokens.{Stream, Look, pick, at_generics}
 use Rattle.syn_grammar.specs.Words.{w_for}
 use Rattle.syn_grammar.specs.Grammar.{word, Syntax, Grammar, empty, token}
 use Rattle.syn_grammar.specs.Run.{parse_form}
-use Rattle.syn_grammar.specs.Leads.{generics_behind, leads_on}
+use Rattle.syn_grammar.specs.Leads.{generics_after, leads_on}
 use Rattle.syn_grammar.specs.Take.{sees}
 use Rattle.syn_recognize.specs.Written.{Written}
 use Rattle.syn_recognize.specs.Copies.{Copy, Reached, next, copy_form}
@@ -49,15 +49,15 @@ guess_is x y d w ts e f = ap₂ (λ v l. copy_way v d l w ts) e f
 pub settled_follows : (x : Guess) (d : Course) (o : Copy) → x.kept ≡ false → x.leads ≡ None → next o (copy_guess x d) ≡ next o (copy_course d None)
 settled_follows x d o e f = ap₂ (λ v l. next o (copy_way v d l)) e f
 
-pub generics_stand : (w : Written) (ts : Stream) → sees at_generics ts ≡ true → copy_form shown_generics w ts ≡ copy_form impl_parameters w ts
-generics_stand w ts e = when_is at_generics impl_parameters empty w ts ∙ ap (λ v. pick v (copy_form impl_parameters w ts) (copy_form empty w ts)) e
+pub generics_present : (w : Written) (ts : Stream) → sees at_generics ts ≡ true → copy_form shown_generics w ts ≡ copy_form impl_parameters w ts
+generics_present w ts e = when_is at_generics impl_parameters empty w ts ∙ ap (λ v. pick v (copy_form impl_parameters w ts) (copy_form empty w ts)) e
 
 pub generics_lack : (w : Written) (ts : Stream) → sees at_generics ts ≡ false → copy_form shown_generics w ts ≡ Reached w ts
 generics_lack w ts e = when_is at_generics impl_parameters empty w ts ∙ ap (λ v. pick v (copy_form impl_parameters w ts) (copy_form empty w ts)) e ∙ empty_is w ts
 
 -- after `for`
 pub for_led : (ts r : Stream) (s : Syntax) → parse_form (token [] (word w_for)) ts ≡ Some (s, r) → leads_on ts ≡ sees at_generics r
-for_led ts r s e = ap generics_behind e
+for_led ts r s e = ap generics_after e
 
 pub for_lacks : (ts : Stream) → parse_form (token [] (word w_for)) ts ≡ None → leads_on ts ≡ false
-for_lacks ts e = ap generics_behind e
+for_lacks ts e = ap generics_after e

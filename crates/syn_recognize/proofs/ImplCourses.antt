@@ -11,7 +11,7 @@ use Rattle.syn_grammar.specs.Run.{branch, parse_form, rows, row_opened, row_clos
 use Rattle.syn_grammar.specs.Plan as plan
 use Rattle.syn_grammar.specs.Plan.{Plan, follow, by_test, run_plan}
 use Rattle.syn_grammar.specs.ItemPlan.{parts, absent, at_lone_word}
-use Rattle.syn_grammar.specs.Leads.{Reads, generics_behind, leads_on}
+use Rattle.syn_grammar.specs.Leads.{Reads, generics_after, leads_on}
 use Rattle.syn_grammar.proofs.Leads.{impl_led}
 use Rattle.syn_grammar.proofs.Looks.{sees_word}
 use Rattle.syn_grammar.proofs.PlanSteps.{seen_apart}
@@ -21,14 +21,14 @@ use Rattle.syn_recognize.specs.Ordered.{member}
 use Rattle.syn_recognize.specs.PrintedRows.{way}
 use Rattle.syn_recognize.specs.Written.{Written, adds}
 use Rattle.syn_recognize.specs.Copies.{Copy, Reached, Refused, Stuck, Leads, copied, next, copy_form, capturing}
-use Rattle.syn_recognize.specs.Course.{Course, reads, turns, rest, kept, lists, led as behind-generics, self_type}
+use Rattle.syn_recognize.specs.Course.{Course, reads, turns, rest, kept, lists, led as following-generics, self_type}
 use Rattle.syn_recognize.specs.Courses.{Fair, copy_kept, copy_course, led_by, guessed_lists, guessed_generics, no_parameters, shown_generics, impl_parameters}
 use Rattle.syn_recognize.proofs.Todo.{leads_same}
 use Rattle.syn_recognize.proofs.Writes.{adds_more}
 use Rattle.syn_recognize.proofs.Ways.{way_left, way_right, way_both, way_nothing}
-use Rattle.syn_recognize.proofs.Lists.{none_stands}
+use Rattle.syn_recognize.proofs.Lists.{none_present}
 use Rattle.syn_recognize.proofs.FadingParts.{parameters_never}
-use Rattle.syn_recognize.proofs.Guessed.{generics_stand, generics_lack}
+use Rattle.syn_recognize.proofs.Guessed.{generics_present, generics_lack}
 use Rattle.syn_recognize.proofs.ImplGenerics.{none_absent, none_bare, none_open, none_refused, some_kept}
 use Rattle.syn_recognize.proofs.CourseProofs.{Flat, Kept, Written-as, Kept-as, Meets, reads_written, turns_written, rest_written, kept_written, reads_kept, turns_kept, kept_is}
 
@@ -47,7 +47,7 @@ or_false : (z : Bool) → or z false ≡ z
 or_false true = refl
 or_false false = refl
 
-not_taken : (o : Out) → taken o ≡ false → generics_behind o ≡ false
+not_taken : (o : Out) → taken o ≡ false → generics_after o ≡ false
 not_taken None e = refl
 not_taken (Some p) e = absurd (true≢false e)
 
@@ -84,11 +84,11 @@ seen (Some x) (Some false) z true A q h f = tt
 seen (Some x) (Some y) z false A q h f = f (Some y) (h.0, ap (λ t. or t false) h.1)
 
 -- THE GENERICS: what was written of them (j) after what was written before (i); their value, and the guess
-abbrev Stands : Bool → Option Bool → Syntax → Stream → Stream → Type 0
-Stands false None g i j = j ≡ i ⧺ way false g
-Stands false (Some x) g i j = ⊥
-Stands true None g i j = (bare g ≡ false) × (j ≡ i ⧺ way true g)
-Stands true (Some x) g i j = (bare g ≡ true) × (j ≡ i ⧺ guessed_generics x)
+abbrev Present : Bool → Option Bool → Syntax → Stream → Stream → Type 0
+Present false None g i j = j ≡ i ⧺ way false g
+Present false (Some x) g i j = ⊥
+Present true None g i j = (bare g ≡ false) × (j ≡ i ⧺ way true g)
+Present true (Some x) g i j = (bare g ≡ true) × (j ≡ i ⧺ guessed_generics x)
 
 shown_bare : (b : Bool) (g : Syntax) (x : Bool) → b ≡ true → show (pick b (pick x no_generics (Right Nothing)) (renew g)) ≡ guessed_generics x
 shown_bare b g true e = ap (λ v. show (pick v no_generics (renew g))) e
@@ -98,7 +98,7 @@ shown_some : (b : Bool) (g : Syntax) (x : Bool) → b ≡ false → show (pick b
 shown_some b g x e = ap (λ v. show (pick v (pick x no_generics (Right Nothing)) (renew g))) e
 
 -- an impl's generics, and what follows them
-impl_text : (a : Bool) (l m : Option Bool) (z : Bool) (g s : Syntax) (i j : Stream) → Stands a l g i j → Known l m z → (m ≡ Some true → ⊥) → led (renew s) ≡ z → i ⧺ way a (Impl g s) ≡ j ⧺ way a s
+impl_text : (a : Bool) (l m : Option Bool) (z : Bool) (g s : Syntax) (i j : Stream) → Present a l g i j → Known l m z → (m ≡ Some true → ⊥) → led (renew s) ≡ z → i ⧺ way a (Impl g s) ≡ j ⧺ way a s
 impl_text false None m z g s i j h k n e = sym (append_append i (show g) (show s)) ∙ ap (λ t. t ⧺ show s) (sym h)
 impl_text false (Some x) m z g s i j h k n e = absurd h
 impl_text true None m z g s i j h k n e =
@@ -119,8 +119,8 @@ body_form = rule impl_body & empty
 abbrev optional_self_type : Grammar
 optional_self_type = when at_for then rule for_self_type else empty
 
-abbrev behind_path : Course
-behind_path = turns at_for (self_type (rest body_form)) (rest body_form)
+abbrev after_path : Course
+after_path = turns at_for (self_type (rest body_form)) (rest body_form)
 
 abbrev kept_three : Grammar
 kept_three = rule type & (rule for_self_type & body_form)
@@ -132,7 +132,7 @@ abbrev for_course : Course
 for_course = reads (rule type_path) (self_type (rest body_form))
 
 abbrev plain_course : Course
-plain_course = reads (rule type_path) behind_path
+plain_course = reads (rule type_path) after_path
 
 abbrev for_or_kept : Course
 for_or_kept = turns at_module_path for_course (kept kept_three)
@@ -210,7 +210,7 @@ module _ (N : Syntax → Syntax) where
     As d p l e m = Written-as k b w d p l e m
 
     -- the body of an impl, after what was written by then (e)
-    body_written : (l n : Option Bool) (z : Bool) (g : Syntax) (S : Syntax → Syntax) (j e m : Stream) → Stands w.printing l g i j → Known l n z →
+    body_written : (l n : Option Bool) (z : Bool) (g : Syntax) (S : Syntax → Syntax) (j e m : Stream) → Present w.printing l g i j → Known l n z →
         ((t : Syntax) (r : Stream) → Reads (rule impl_body) m t r → led (renew (S t)) ≡ z) → ((t : Syntax) → j ⧺ way w.printing (S t) ≡ e ⧺ way w.printing t) → As (rest body_form) (ending g S) n e m
     body_written l (Some true) z g S j e m h q f x = tt
     body_written l (Some false) z g S j e m h q f x =
@@ -221,7 +221,7 @@ module _ (N : Syntax → Syntax) where
         (refl, (refl, λ t r y. (refl, H (Impl g (S t)) ∙ impl_text w.printing l None z g (S t) i j h q (λ u. absurd (cc u)) (f t r y) ∙ x t)))
 
     -- the self type, and the body
-    self_written : (l n : Option Bool) (z : Bool) (g : Syntax) (S : Syntax → Syntax → Syntax) (j e m : Stream) → Stands w.printing l g i j → Known l n z →
+    self_written : (l n : Option Bool) (z : Bool) (g : Syntax) (S : Syntax → Syntax → Syntax) (j e m : Stream) → Present w.printing l g i j → Known l n z →
         ((s t : Syntax) (q r : Stream) → Reads (rule for_self_type) m s q → Reads (rule impl_body) q t r → led (renew (S s t)) ≡ or z (leads_on m)) →
         ((s t : Syntax) → j ⧺ way w.printing (S s t) ≡ (e ⧺ way w.printing s) ⧺ way w.printing t) → As (self_type (rest body_form)) (plan.reads (rule for_self_type) λ s. ending g (S s)) n e m
     self_written l n z g S j e m h q f x =
@@ -231,9 +231,9 @@ module _ (N : Syntax → Syntax) where
         (λ s r u. body_written l o (or z (leads_on m)) g (S s) j (e ⧺ way w.printing s) r h y (λ t v c. f s t r v u c) (λ t. x s t)))
 
     -- `for` is next or not
-    path_written : (l n : Option Bool) (z : Bool) (g : Syntax) (S : Syntax → Syntax → Syntax) (j e m : Stream) → Stands w.printing l g i j → Known l n z →
+    path_written : (l n : Option Bool) (z : Bool) (g : Syntax) (S : Syntax → Syntax → Syntax) (j e m : Stream) → Present w.printing l g i j → Known l n z →
         ((s t : Syntax) (q r : Stream) → Reads optional_self_type m s q → Reads (rule impl_body) q t r → led (renew (S s t)) ≡ or z (leads_on m)) →
-        ((s t : Syntax) → j ⧺ way w.printing (S s t) ≡ (e ⧺ way w.printing s) ⧺ way w.printing t) → As behind_path (plan.reads optional_self_type λ s. ending g (S s)) n e m
+        ((s t : Syntax) → j ⧺ way w.printing (S s t) ≡ (e ⧺ way w.printing s) ⧺ way w.printing t) → As after_path (plan.reads optional_self_type λ s. ending g (S s)) n e m
     path_written l n z g S j e m h q f x = go (sees at_for m) refl
       where
         parsed : (v : Bool) → sees at_for m ≡ v → parse_form optional_self_type m ≡ branch v (parse_form (rule for_self_type) m) (Some (Nothing, m))
@@ -243,18 +243,18 @@ module _ (N : Syntax → Syntax) where
         moved None = refl
         moved (Some p) = refl
 
-        go : (v : Bool) → sees at_for m ≡ v → As behind_path (plan.reads optional_self_type λ s. ending g (S s)) n e m
+        go : (v : Bool) → sees at_for m ≡ v → As after_path (plan.reads optional_self_type λ s. ending g (S s)) n e m
         go true y =
             let parse : parse_form optional_self_type m ≡ wrap Left (parse_form (rule for_self_type) m) = parsed true y in
             let plans : run_plan (plan.reads optional_self_type λ s. ending g (S s)) k b m ≡ run_plan (plan.reads (rule for_self_type) λ s. ending g (S (Left s))) k b m
             = ap (follow (λ s r. run_plan (ending g (S s)) k b r)) parse ∙ moved (parse_form (rule for_self_type) m) in
-            subst (λ p. Leads (copied w p) (copy_course behind_path n (adds w e) m)) (sym plans)
+            subst (λ p. Leads (copied w p) (copy_course after_path n (adds w e) m)) (sym plans)
             (subst (λ c. Leads (copied w (run_plan (plan.reads (rule for_self_type) λ s. ending g (S (Left s))) k b m)) (pick c (copy_course (self_type (rest body_form)) n (adds w e) m) (copy_course (rest body_form) n (adds w e) m))) (sym y)
             (self_written l n z g (λ s. S (Left s)) j e m h q (λ s t c r u d. f (Left s) t c r (parse ∙ ap (wrap Left) u) d) (λ s t. x (Left s) t ∙ ap (λ c. (e ⧺ c) ⧺ way w.printing t) (way_left w.printing s))))
         go false y =
             let parse : parse_form optional_self_type m ≡ Some (Right Nothing, m) = parsed false y in
             let none : leads_on m ≡ false = none_ahead m y in
-            subst (λ p. Leads (copied w p) (copy_course behind_path n (adds w e) m)) (sym (ap (follow (λ s r. run_plan (ending g (S s)) k b r)) parse))
+            subst (λ p. Leads (copied w p) (copy_course after_path n (adds w e) m)) (sym (ap (follow (λ s r. run_plan (ending g (S s)) k b r)) parse))
             (subst (λ c. Leads (copied w (run_plan (ending g (S (Right Nothing))) k b m)) (pick c (copy_course (self_type (rest body_form)) n (adds w e) m) (copy_course (rest body_form) n (adds w e) m))) (sym y)
             (body_written l n z g (S (Right Nothing)) j e m h q
             (λ t r u. f (Right Nothing) t m r parse u ∙ ap (or z) none ∙ or_false z)
@@ -265,7 +265,7 @@ module _ (N : Syntax → Syntax) where
     known_first (Some x) = (refl, refl)
 
     -- after `!` and a path
-    for_written : (l n : Option Bool) (g x : Syntax) (j m r : Stream) → Stands w.printing l g i j → Known l n (sees at_generics m) → Reads (punctuation exclamation) m x r →
+    for_written : (l n : Option Bool) (g x : Syntax) (j m r : Stream) → Present w.printing l g i j → Known l n (sees at_generics m) → Reads (punctuation exclamation) m x r →
         As (reads (rule type_path) (self_type (rest body_form))) (for_type g x) n (j ⧺ way w.printing x) r
     for_written l n g x j m r h q u =
         reads_written k b w (rule type_path) (rule type_path) (self_type (rest body_form)) (λ t. plan.reads (rule for_self_type) λ f. ending g (λ c. Left (Both x (Right (parts (t ∷ f ∷ c ∷ [])))))) n (j ⧺ way w.printing x) r refl
@@ -273,20 +273,20 @@ module _ (N : Syntax → Syntax) where
         (λ f c o d y z. impl_led.1.0 m r p o d x t f c u v y z)
         (λ f c. ap (λ y. j ⧺ y) (for_text w.printing x t f c) ∙ sym (append_append j (way w.printing x) (way w.printing t ⧺ (way w.printing f ⧺ way w.printing c))) ∙ three (j ⧺ way w.printing x) (way w.printing t) (way w.printing f) (way w.printing c)))
 
-    never_written : (l n : Option Bool) (g x : Syntax) (j m r : Stream) → Stands w.printing l g i j → Known l n (sees at_generics m) → Reads (punctuation exclamation) m x r →
+    never_written : (l n : Option Bool) (g x : Syntax) (j m r : Stream) → Present w.printing l g i j → Known l n (sees at_generics m) → Reads (punctuation exclamation) m x r →
         As (rest body_form) (ending g (λ c. Left (Both x (Left c)))) n (j ⧺ way w.printing x) r
     never_written l n g x j m r h q u =
         body_written l n (sees at_generics m) g (λ c. Left (Both x (Left c))) j (j ⧺ way w.printing x) r h q (λ c d y. impl_led.0 m r d x c u y)
         (λ c. ap (λ y. j ⧺ y) (never_text w.printing x c) ∙ sym (append_append j (way w.printing x) (way w.printing c)))
 
-    plain_written : (l n : Option Bool) (g : Syntax) (j m : Stream) → Stands w.printing l g i j → Known l n (sees at_generics m) → As (reads (rule type_path) behind_path) (path_plan g) n j m
+    plain_written : (l n : Option Bool) (g : Syntax) (j m : Stream) → Present w.printing l g i j → Known l n (sees at_generics m) → As (reads (rule type_path) after_path) (path_plan g) n j m
     plain_written l n g j m h q =
-        reads_written k b w (rule type_path) (rule type_path) behind_path (λ t. plan.reads optional_self_type λ f. ending g (λ c. Right (Left (parts (t ∷ f ∷ c ∷ []))))) n j m refl
+        reads_written k b w (rule type_path) (rule type_path) after_path (λ t. plan.reads optional_self_type λ f. ending g (λ c. Right (Left (parts (t ∷ f ∷ c ∷ []))))) n j m refl
         (λ t p v. path_written l n (sees at_generics m) g (λ f c. Right (Left (parts (t ∷ f ∷ c ∷ [])))) j (j ⧺ way w.printing t) p h q
         (λ f c o d y z. impl_led.1.1.0 m p o d t f c v y z)
         (λ f c. ap (λ y. j ⧺ y) (path_text w.printing t f c) ∙ three j (way w.printing t) (way w.printing f) (way w.printing c)))
 
-    type_written : (l n : Option Bool) (g t : Syntax) (j m p : Stream) → Stands w.printing l g i j → Known l n (sees at_generics m) → Reads (rule type) m t p →
+    type_written : (l n : Option Bool) (g t : Syntax) (j m p : Stream) → Present w.printing l g i j → Known l n (sees at_generics m) → Reads (rule type) m t p →
         As (rest body_form) (ending g (λ c. Right (Right (Both t c)))) n (j ⧺ way w.printing t) p
     type_written l n g t j m p h q v =
         body_written l n (sees at_generics m) g (λ c. Right (Right (Both t c))) j (j ⧺ way w.printing t) p h q (λ c d y. impl_led.1.1.1 m p d t c v y)
@@ -298,7 +298,7 @@ module _ (N : Syntax → Syntax) where
     two_is : Kept kept_two two_kept
     two_is = (refl, (refl, λ f. (refl, (refl, λ c. refl))))
 
-    types_from : (l n : Option Bool) (g : Syntax) (j m : Stream) → Stands w.printing l g i j → Known l n (sees at_generics m) → As types_course (types_plan g) n j m
+    types_from : (l n : Option Bool) (g : Syntax) (j m : Stream) → Present w.printing l g i j → Known l n (sees at_generics m) → As types_course (types_plan g) n j m
     types_from l n g j m h q =
         turns_written k b w at_exclamation (reads (mark false exclamation) brace_course) path_course (plan.reads (punctuation exclamation) (brace_plan g)) (path_or_type g) n j m
         (λ s. reads_written k b w (mark false exclamation) (punctuation exclamation) brace_course (brace_plan g) n j m refl
@@ -310,7 +310,7 @@ module _ (N : Syntax → Syntax) where
         (λ t p v. turns_written k b w at_for (kept kept_two) (rest body_form) two_kept (end_plan g t) n (j ⧺ way w.printing t) p (λ z. kept_written k b w kept_two two_kept n (j ⧺ way w.printing t) p two_is)
         (λ z. type_written l n g t j m p h q v))))
 
-    alone_from : (l n : Option Bool) (g : Syntax) (j m : Stream) → Stands w.printing l g i j → Known l n (sees at_generics m) → As alone_course (alone_plan g) n j m
+    alone_from : (l n : Option Bool) (g : Syntax) (j m : Stream) → Present w.printing l g i j → Known l n (sees at_generics m) → As alone_course (alone_plan g) n j m
     alone_from l n g j m h q =
         turns_written k b w at_exclamation (reads (mark false exclamation) brace_alone) path_alone (plan.reads (punctuation exclamation) (brace_alone_plan g)) (path_alone_plan g) n j m
         (λ s. reads_written k b w (mark false exclamation) (punctuation exclamation) brace_alone (brace_alone_plan g) n j m refl
@@ -356,10 +356,10 @@ module _ (N : Syntax → Syntax) where
               ),
             )
 
-    pub types_written : (l : Option Bool) (g : Syntax) (j m : Stream) → Stands w.printing l g i j → As (behind-generics types_course) (types_plan g) l j m
+    pub types_written : (l : Option Bool) (g : Syntax) (j m : Stream) → Present w.printing l g i j → As (following-generics types_course) (types_plan g) l j m
     types_written l g j m h = seen l l false (sees at_generics m) (copied w (run_plan (types_plan g) k b m)) (λ o. copy_course types_course o (adds w j) m) (known_first l) (λ o q. types_from l o g j m h q)
 
-    pub alone_written : (l : Option Bool) (g : Syntax) (j m : Stream) → Stands w.printing l g i j → As (behind-generics alone_course) (alone_plan g) l j m
+    pub alone_written : (l : Option Bool) (g : Syntax) (j m : Stream) → Present w.printing l g i j → As (following-generics alone_course) (alone_plan g) l j m
     alone_written l g j m h = seen l l false (sees at_generics m) (copied w (run_plan (alone_plan g) k b m)) (λ o. copy_course alone_course o (adds w j) m) (known_first l) (λ o q. alone_from l o g j m h q)
 
   -- WHERE THE GUESS IS THAT ALL IS STORED VERBATIM
@@ -370,7 +370,7 @@ module _ (N : Syntax → Syntax) where
     self_kept : (g : Syntax) (S : Syntax → Syntax → Syntax) (v : Written) (m : Stream) → Aside (self_type (rest body_form)) (plan.reads (rule for_self_type) λ s. ending g (S s)) v m
     self_kept g S v m = reads_kept k b w (rule for_self_type) (rule for_self_type) (rest body_form) (λ s. ending g (S s)) v m refl (λ s r u q. tt)
 
-    path_kept : (g : Syntax) (S : Syntax → Syntax → Syntax) (v : Written) (m : Stream) → Aside behind_path (plan.reads optional_self_type λ s. ending g (S s)) v m
+    path_kept : (g : Syntax) (S : Syntax → Syntax → Syntax) (v : Written) (m : Stream) → Aside after_path (plan.reads optional_self_type λ s. ending g (S s)) v m
     unfolding copy_form
     path_kept g S v m = go (sees at_for m) refl
       where
@@ -378,7 +378,7 @@ module _ (N : Syntax → Syntax) where
         of None = refl
         of (Some p) = tt
 
-        go : (c : Bool) → sees at_for m ≡ c → Aside behind_path (plan.reads optional_self_type λ s. ending g (S s)) v m
+        go : (c : Bool) → sees at_for m ≡ c → Aside after_path (plan.reads optional_self_type λ s. ending g (S s)) v m
         go true y =
             subst (λ c. Leads (copied w (follow (λ s r. run_plan (ending g (S s)) k b r) (branch c (parse_form (rule for_self_type) m) (Some (Nothing, m)))))
             (next (pick c (copy_kept (self_type (rest body_form)) v m) (copy_kept (rest body_form) v m)) (capturing w b))) (sym y) (of (parse_form (rule for_self_type) m))
@@ -393,13 +393,13 @@ module _ (N : Syntax → Syntax) where
 
     plain_kept : (g : Syntax) (v : Written) (m : Stream) → Aside plain_course (path_plan g) v m
     plain_kept g v m =
-        reads_kept k b w (rule type_path) (rule type_path) behind_path (λ t. plan.reads optional_self_type λ f. ending g (λ c. Right (Left (parts (t ∷ f ∷ c ∷ []))))) v m refl
+        reads_kept k b w (rule type_path) (rule type_path) after_path (λ t. plan.reads optional_self_type λ f. ending g (λ c. Right (Left (parts (t ∷ f ∷ c ∷ []))))) v m refl
         (λ t r u q. path_kept g (λ f c. Right (Left (parts (t ∷ f ∷ c ∷ [])))) u r)
 
     all_kept : (g : Grammar) (p : Plan) (v : Written) (m : Stream) → Kept g p → Aside (kept g) p v m
     all_kept g p v m e = leads_same (copied w (run_plan p k b m)) (next (copy_form g v m) (capturing w b)) (sym (kept_is k b w g p v m e))
 
-    pub types_kept : (g : Syntax) (v : Written) (m : Stream) → Aside (behind-generics types_course) (types_plan g) v m
+    pub types_kept : (g : Syntax) (v : Written) (m : Stream) → Aside (following-generics types_course) (types_plan g) v m
     types_kept g v m =
         turns_kept k b w at_exclamation (reads (mark false exclamation) brace_course) path_course (plan.reads (punctuation exclamation) (brace_plan g)) (path_or_type g) v m
         (λ s. reads_kept k b w (mark false exclamation) (punctuation exclamation) brace_course (brace_plan g) v m refl
@@ -410,7 +410,7 @@ module _ (N : Syntax → Syntax) where
         (λ y. reads_kept k b w (rule type) (rule type) type_course (type_plan g) v m refl
         (λ t r u q. turns_kept k b w at_for (kept kept_two) (rest body_form) two_kept (end_plan g t) u r (λ z. all_kept kept_two two_kept u r (refl, (refl, λ f. (refl, (refl, λ c. refl))))) (λ z. tt))))
 
-    pub alone_kept : (g : Syntax) (v : Written) (m : Stream) → Aside (behind-generics alone_course) (alone_plan g) v m
+    pub alone_kept : (g : Syntax) (v : Written) (m : Stream) → Aside (following-generics alone_course) (alone_plan g) v m
     alone_kept g v m =
         turns_kept k b w at_exclamation (reads (mark false exclamation) brace_alone) path_alone (plan.reads (punctuation exclamation) (brace_alone_plan g)) (path_alone_plan g) v m
         (λ s. reads_kept k b w (mark false exclamation) (punctuation exclamation) brace_alone (brace_alone_plan g) v m refl
@@ -423,7 +423,7 @@ module _ (d : Course) (P : Syntax → Plan) where
   generics_plan = plan.turns at_generics (plan.reads kept_generics λ g. P (Left g)) (P absent)
 
   abbrev All : Rule → Stream → Written → Stream → Type 0
-  All k b w i = (l : Option Bool) (g : Syntax) (j m : Stream) → Stands w.printing l g i j → Written-as k b w d (P g) l j m
+  All k b w i = (l : Option Bool) (g : Syntax) (j m : Stream) → Present w.printing l g i j → Written-as k b w d (P g) l j m
 
   module _ (k : Rule) (b : Stream) (w : Written) (i m : Stream) (each : All k b w i) where
     parsed : (v : Bool) → sees at_generics m ≡ v → run_plan generics_plan k b m ≡ by_test v (run_plan (plan.reads kept_generics λ g. P (Left g)) k b m) (run_plan (P absent) k b m)
@@ -434,16 +434,16 @@ module _ (d : Course) (P : Syntax → Plan) where
     unfolding copy_form adds
     shown_lists e = go (sees at_generics m) refl
       where
-        shown : (g : Syntax) → Stands w.printing None g i (i ⧺ way w.printing g)
-        shown g = subst (λ a. Stands a None g i (i ⧺ way a g)) (sym e) refl
+        shown : (g : Syntax) → Present w.printing None g i (i ⧺ way w.printing g)
+        shown g = subst (λ a. Present a None g i (i ⧺ way a g)) (sym e) refl
 
-        none : Stands w.printing None absent i i
-        none = subst (λ a. Stands a None absent i i) (sym e) (sym (append_end i))
+        none : Present w.printing None absent i i
+        none = subst (λ a. Present a None absent i i) (sym e) (sym (append_end i))
 
         of : (o : Out) → Leads (copied w (follow (λ g r. run_plan (P (Left g)) k b r) o)) (next (copied (adds w i) o) (copy_course d None))
         of None = refl
         of (Some p) =
-            subst (λ v. Leads (copied w (run_plan (P (Left p.0)) k b p.1)) (copy_course d None v p.1)) (sym (more p.0)) (each None (Left p.0) (i ⧺ way w.printing p.0) p.1 (subst (λ c. Stands w.printing None (Left p.0) i (i ⧺ c)) (way_left w.printing p.0) (shown (Left p.0))))
+            subst (λ v. Leads (copied w (run_plan (P (Left p.0)) k b p.1)) (copy_course d None v p.1)) (sym (more p.0)) (each None (Left p.0) (i ⧺ way w.printing p.0) p.1 (subst (λ c. Present w.printing None (Left p.0) i (i ⧺ c)) (way_left w.printing p.0) (shown (Left p.0))))
           where
             more : (s : Syntax) → adds (adds w i) (way (adds w i).printing s) ≡ adds w (i ⧺ way w.printing s)
             more s = adds_more w i (way w.printing s)
@@ -451,7 +451,7 @@ module _ (d : Course) (P : Syntax → Plan) where
         go : (v : Bool) → sees at_generics m ≡ v → Written-as k b w (lists d) generics_plan None i m
         go true y =
             subst (λ p. Leads (copied w p) (next (copy_form shown_generics (adds w i) m) (copy_course d None))) (sym (parsed true y))
-            (subst (λ c. Leads (copied w (run_plan (plan.reads kept_generics λ g. P (Left g)) k b m)) (next c (copy_course d None))) (sym (generics_stand (adds w i) m y)) (of (parse_form kept_generics m)))
+            (subst (λ c. Leads (copied w (run_plan (plan.reads kept_generics λ g. P (Left g)) k b m)) (next c (copy_course d None))) (sym (generics_present (adds w i) m y)) (of (parse_form kept_generics m)))
         go false y =
             subst (λ p. Leads (copied w p) (next (copy_form shown_generics (adds w i) m) (copy_course d None))) (sym (parsed false y))
             (subst (λ c. Leads (copied w (run_plan (P absent) k b m)) (next c (copy_course d None))) (sym (generics_lack (adds w i) m y)) (each None absent i m none))
@@ -471,7 +471,7 @@ module _ (d : Course) (P : Syntax → Plan) where
         none_left : (g : Syntax) (r : Stream) → bare g ≡ true → A ≡ copy_course d (Some x) (adds (adds w i) (guessed_generics x)) r → Leads (copied w (run_plan (P g) k b r)) A
         none_left g r h y =
             subst (Leads (copied w (run_plan (P g) k b r))) (sym (y ∙ ap (λ v. copy_course d (Some x) v r) (adds_more w i (guessed_generics x))))
-            (each (Some x) g (i ⧺ guessed_generics x) r (subst (λ a. Stands a (Some x) g i (i ⧺ guessed_generics x)) (sym e) (h, refl)))
+            (each (Some x) g (i ⧺ guessed_generics x) r (subst (λ a. Present a (Some x) g i (i ⧺ guessed_generics x)) (sym e) (h, refl)))
 
         refused : (o : Out) → o ≡ None → A ≡ Refused → Leads (copied w (follow (λ g r. run_plan (P (Left g)) k b r) o)) A
         refused o y z = subst (Leads (copied w (follow (λ g r. run_plan (P (Left g)) k b r) o))) (sym z) (ap (λ t. copied w (follow (λ g r. run_plan (P (Left g)) k b r) t)) y)
@@ -481,24 +481,24 @@ module _ (d : Course) (P : Syntax → Plan) where
         some_left None h = refl
         some_left (Some p) h =
             subst (λ v. Leads (copied w (run_plan (P (Left p.0)) k b p.1)) (copy_course d None v p.1)) (sym (more p.0))
-            (each None (Left p.0) (i ⧺ way w.printing p.0) p.1 (subst (λ c. Stands w.printing None (Left p.0) i (i ⧺ c)) (way_left w.printing p.0) (stands (Left p.0) (h p refl))))
+            (each None (Left p.0) (i ⧺ way w.printing p.0) p.1 (subst (λ c. Present w.printing None (Left p.0) i (i ⧺ c)) (way_left w.printing p.0) (present (Left p.0) (h p refl))))
           where
             more : (s : Syntax) → adds (adds w i) (way (adds w i).printing s) ≡ adds w (i ⧺ way w.printing s)
             more s = adds_more w i (way w.printing s)
 
-            stands : (g : Syntax) → bare g ≡ false → Stands w.printing None g i (i ⧺ way w.printing g)
-            stands g h = subst (λ a. Stands a None g i (i ⧺ way a g)) (sym e) (h, refl)
+            present : (g : Syntax) → bare g ≡ false → Present w.printing None g i (i ⧺ way w.printing g)
+            present g h = subst (λ a. Present a None g i (i ⧺ way a g)) (sym e) (h, refl)
 
         -- after `<`
-        behind_less : sees at_generics m ≡ true → (o : Out) → take_mark less m ≡ o → Leads (copied w (follow (λ g r. run_plan (P (Left g)) k b r) (parse_form kept_generics m))) A
-        behind_less y None z = refused (parse_form kept_generics m) (ap (λ t. row_opened t (rows (member List-m.Parameters))) z) (none_refused x (copy_course d) (adds w i) m y z)
-        behind_less y (Some p) z = ends (sees at_row_end p.1) refl
+        after_less : sees at_generics m ≡ true → (o : Out) → take_mark less m ≡ o → Leads (copied w (follow (λ g r. run_plan (P (Left g)) k b r) (parse_form kept_generics m))) A
+        after_less y None z = refused (parse_form kept_generics m) (ap (λ t. row_opened t (rows (member List-m.Parameters))) z) (none_refused x (copy_course d) (adds w i) m y z)
+        after_less y (Some p) z = ends (sees at_row_end p.1) refl
           where
             ends : (c : Bool) → sees at_row_end p.1 ≡ c → Leads (copied w (follow (λ g r. run_plan (P (Left g)) k b r) (parse_form kept_generics m))) A
             ends true s = closes (take_mark greater p.1) refl
               where
                 opened : parse_form kept_generics m ≡ close_row p.0 Done (take_mark greater p.1)
-                opened = ap (λ t. row_opened t (rows (member List-m.Parameters))) z ∙ ap (row_closed p.0) (none_stands List-m.Parameters p.1 s)
+                opened = ap (λ t. row_opened t (rows (member List-m.Parameters))) z ∙ ap (row_closed p.0) (none_present List-m.Parameters p.1 s)
 
                 closes : (o : Out) → take_mark greater p.1 ≡ o → Leads (copied w (follow (λ g r. run_plan (P (Left g)) k b r) (parse_form kept_generics m))) A
                 closes None c = refused (parse_form kept_generics m) (opened ∙ ap (close_row p.0 Done) c) (none_open x (copy_course d) (adds w i) m p.0 p.1 y z s c)
@@ -510,7 +510,7 @@ module _ (d : Course) (P : Syntax → Plan) where
                 (some_left (parse_form kept_generics m) (parameters_never p.0 p.1 m z s))
 
         go : (v : Bool) → sees at_generics m ≡ v → Leads (copied w (run_plan generics_plan k b m)) A
-        go true y = subst (λ p. Leads (copied w p) A) (sym (parsed true y)) (behind_less y (take_mark less m) refl)
+        go true y = subst (λ p. Leads (copied w p) A) (sym (parsed true y)) (after_less y (take_mark less m) refl)
         go false y = subst (λ p. Leads (copied w p) A) (sym (parsed false y)) (none_left absent m refl (none_absent x (copy_course d) (adds w i) m y))
 
   -- stored verbatim
@@ -525,7 +525,7 @@ module _ (d : Course) (P : Syntax → Plan) where
       go : (c : Bool) → sees at_generics m ≡ c → Kept-as k b w (lists d) generics_plan v m
       go true y =
           subst (λ c. Leads (copied w (by_test c (run_plan (plan.reads kept_generics λ g. P (Left g)) k b m) (run_plan (P absent) k b m))) (next (next (copy_form shown_generics v m) (copy_kept d)) (capturing w b))) (sym y)
-          (subst (λ c. Leads (copied w (run_plan (plan.reads kept_generics λ g. P (Left g)) k b m)) (next (next c (copy_kept d)) (capturing w b))) (sym (generics_stand v m y)) (of (parse_form kept_generics m)))
+          (subst (λ c. Leads (copied w (run_plan (plan.reads kept_generics λ g. P (Left g)) k b m)) (next (next c (copy_kept d)) (capturing w b))) (sym (generics_present v m y)) (of (parse_form kept_generics m)))
       go false y =
           subst (λ c. Leads (copied w (by_test c (run_plan (plan.reads kept_generics λ g. P (Left g)) k b m) (run_plan (P absent) k b m))) (next (next (copy_form shown_generics v m) (copy_kept d)) (capturing w b))) (sym y)
           (subst (λ c. Leads (copied w (run_plan (P absent) k b m)) (next (next c (copy_kept d)) (capturing w b))) (sym (generics_lack v m y)) (each absent v m))
@@ -540,14 +540,14 @@ module _ (d : Course) (P : Syntax → Plan) where
       by k b w each false p (Some x) f = absurd f
 
 -- AN IMPL, of this value
-pub item_impl_meets : (a : Bool) (N : Syntax → Syntax) (i m : Stream) → ((z : Syntax) → way a (N z) ≡ i ⧺ way a z) → Meets a (lists (behind-generics types_course)) (generics_plan (behind-generics types_course) (types_plan N)) i m
+pub item_impl_meets : (a : Bool) (N : Syntax → Syntax) (i m : Stream) → ((z : Syntax) → way a (N z) ≡ i ⧺ way a z) → Meets a (lists (following-generics types_course)) (generics_plan (following-generics types_course) (types_plan N)) i m
 item_impl_meets a N i m H =
-    lists_meet (behind-generics types_course) (types_plan N) a i m
+    lists_meet (following-generics types_course) (types_plan N) a i m
     (λ k b w e. (λ l g j r h. types_written N k b w i (subst (λ c. (z : Syntax) → way c (N z) ≡ i ⧺ way c z) (sym e) H) l g j r h, λ g v r. types_kept N k b w g v r))
 
-pub alone_impl_meets : (a : Bool) (N : Syntax → Syntax) (i m : Stream) → ((z : Syntax) → way a (N z) ≡ i ⧺ way a z) → Meets a (lists (behind-generics alone_course)) (generics_plan (behind-generics alone_course) (alone_plan N)) i m
+pub alone_impl_meets : (a : Bool) (N : Syntax → Syntax) (i m : Stream) → ((z : Syntax) → way a (N z) ≡ i ⧺ way a z) → Meets a (lists (following-generics alone_course)) (generics_plan (following-generics alone_course) (alone_plan N)) i m
 alone_impl_meets a N i m H =
-    lists_meet (behind-generics alone_course) (alone_plan N) a i m
+    lists_meet (following-generics alone_course) (alone_plan N) a i m
     (λ k b w e. (λ l g j r h. alone_written N k b w i (subst (λ c. (z : Syntax) → way c (N z) ≡ i ⧺ way c z) (sym e) H) l g j r h, λ g v r. alone_kept N k b w g v r))
 
 -- AN IMPL OF A TYPE OF ONE WORD IN PARENTHESES, which has no generics

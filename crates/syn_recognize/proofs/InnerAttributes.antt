@@ -13,20 +13,20 @@ and_same : (b c d : Bool) → (b ≡ true → c ≡ d) → and b c ≡ and b d
 and_same true c d h = h refl
 and_same false c d h = refl
 
-told_bang : (b : Bool) → has_fact Before_bang (pick b (Before_bang ∷ []) []) ≡ b
-told_bang true = refl
-told_bang false = refl
+known_bang : (b : Bool) → has_fact Before_bang (pick b (Before_bang ∷ []) []) ≡ b
+known_bang true = refl
+known_bang false = refl
 
 -- after `#`
-behind_pound : (j : Bool) (sp : Span) (m : Stream) → has_fact Before_bang (lookahead (punct 35 j sp m)).facts ≡ answers (at_mark exclamation) (lookahead (past (punct 35 j sp m)))
-behind_pound false sp m = told_bang (answers (at_mark exclamation) (lookahead m))
-behind_pound true sp m = go (lookahead m).terminal refl
+after_pound : (j : Bool) (sp : Span) (m : Stream) → has_fact Before_bang (lookahead (punct 35 j sp m)).facts ≡ answers (at_mark exclamation) (lookahead (past (punct 35 j sp m)))
+after_pound false sp m = known_bang (answers (at_mark exclamation) (lookahead m))
+after_pound true sp m = go (lookahead m).terminal refl
   where
     go : (f : Terminal) → (lookahead m).terminal ≡ f → has_fact Before_bang (lookahead (punct 35 true sp m)).facts ≡ answers (at_mark exclamation) (lookahead m)
     go Ended e = rw e refl
     go Name e = rw e refl
     go (Word x) e = rw e refl
-    go (Punctuation x) e = rw e (told_bang (begins_text exclamation x))
+    go (Punctuation x) e = rw e (known_bang (begins_text exclamation x))
     go (Literal k) e = rw e refl
     go (Delimited d v) e = rw e refl
 
@@ -44,4 +44,4 @@ inner_attribute_seen end = refl
 inner_attribute_seen (leaf x sp m) = and_same (sees (at_mark pound) (leaf x sp m)) (has_fact Before_bang (lookahead (leaf x sp m)).facts) (sees (at_mark exclamation) m) (λ h. absurd (true≢false (sym h ∙ sees_one 35 (leaf x sp m))))
 inner_attribute_seen (group d o c i m) = and_same (sees (at_mark pound) (group d o c i m)) (has_fact Before_bang (lookahead (group d o c i m)).facts) (sees (at_mark exclamation) m) (λ h. absurd (true≢false (sym h ∙ sees_one 35 (group d o c i m))))
 inner_attribute_seen (punct c j sp m) =
-    and_same (sees (at_mark pound) (punct c j sp m)) (has_fact Before_bang (lookahead (punct c j sp m)).facts) (answers (at_mark exclamation) (lookahead (past (punct c j sp m)))) (λ h. subst (λ n. has_fact Before_bang (lookahead (punct n j sp m)).facts ≡ answers (at_mark exclamation) (lookahead (past (punct n j sp m)))) (sym (is_pound c j sp m h)) (behind_pound j sp m))
+    and_same (sees (at_mark pound) (punct c j sp m)) (has_fact Before_bang (lookahead (punct c j sp m)).facts) (answers (at_mark exclamation) (lookahead (past (punct c j sp m)))) (λ h. subst (λ n. has_fact Before_bang (lookahead (punct n j sp m)).facts ≡ answers (at_mark exclamation) (lookahead (past (punct n j sp m)))) (sym (is_pound c j sp m h)) (after_pound j sp m))

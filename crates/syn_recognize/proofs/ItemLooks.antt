@@ -8,16 +8,16 @@ use Rattle.syn_grammar.specs.Table.{at_ampersand, at_colons, at_crate_macro, at_
 use Rattle.syn_grammar.proofs.Looks.{sees_or}
 use Rattle.syn_parse.specs.Peeks.{past}
 use Rattle.syn_recognize.specs.ItemLooks.{at_async_item, at_auto_item, at_const_expression, at_const_item, at_crate_item, at_default_item, at_item_word, at_marked_word, at_named_macro, at_static_item, at_union_item, at_unsafe_item}
-use Rattle.syn_recognize.proofs.Facts.{told_first, word_face, and_same}
+use Rattle.syn_recognize.proofs.Facts.{reported_first, word_face, and_same}
 use Rattle.syn_recognize.proofs.Restricted.{no_word}
-use Rattle.syn_recognize.proofs.ExpressionLooks.{behind_six}
-use Rattle.syn_recognize.proofs.PathLooks.{no_name, others, passed, self_is_word, told_of_name, told_of_word, word_tells}
+use Rattle.syn_recognize.proofs.ExpressionLooks.{after_six}
+use Rattle.syn_recognize.proofs.PathLooks.{no_name, others, passed, self_is_word, known_of_name, known_of_word, word_settles}
 
 -- WHAT THE GRAMMAR STATES OF A WORD by the tokens after it
-abbrev tells : Text → Fact → Look → Type 0
-tells w n c = (f : Lookahead) → has_fact n (facts_for (asked (leaf_terminal (ident w))) f) ≡ answers c f
+abbrev settles : Text → Fact → Look → Type 0
+settles w n c = (f : Lookahead) → has_fact n (facts_for (asked (leaf_terminal (ident w))) f) ≡ answers c f
 
-module _ (w : Text) (n : Fact) (c : Look) (t : tells w n c) where
+module _ (w : Text) (n : Fact) (c : Look) (t : settles w n c) where
   noted : (x : Text) (m : Stream) → is_word w (leaf_terminal (ident x)) ≡ true → has_fact n (facts_for (asked (leaf_terminal (ident x))) (lookahead m)) ≡ answers c (lookahead m)
   noted x m e = subst (λ z. has_fact n (facts_for (asked (leaf_terminal (ident z))) (lookahead m)) ≡ answers c (lookahead m)) (sym (word_face w x e)) (t (lookahead m))
 
@@ -39,31 +39,31 @@ module _ (w : Text) (n : Fact) (c : Look) (t : tells w n c) where
   unmarked_seen ts = and_same (sees (at_word w) ts) _ _ (λ h. ap no (noted_at ts h))
 
 pub union_seen : (ts : Stream) → sees at_union_item ts ≡ and (sees (at_word w_union) ts) (sees at_name (past ts))
-union_seen = marked_seen w_union Begins_item at_name (λ f. told_first Begins_item at_name ((at_group Brace, Before_brace) ∷ asked_by_name) f refl refl)
+union_seen = marked_seen w_union Begins_item at_name (λ f. reported_first Begins_item at_name ((at_group Brace, Before_brace) ∷ asked_by_name) f refl refl)
 
 pub auto_seen : (ts : Stream) → sees at_auto_item ts ≡ and (sees (at_word w_auto) ts) (sees (at_word w_trait) (past ts))
-auto_seen = marked_seen w_auto Begins_item (at_word w_trait) (λ f. told_first Begins_item (at_word w_trait) asked_by_name f refl refl)
+auto_seen = marked_seen w_auto Begins_item (at_word w_trait) (λ f. reported_first Begins_item (at_word w_trait) asked_by_name f refl refl)
 
 pub default_item_seen : (ts : Stream) → sees at_default_item ts ≡ and (sees (at_word w_default) ts) (or (sees (at_word w_unsafe) (past ts)) (sees (at_word w_impl) (past ts)))
 unfolding sees
-default_item_seen = marked_seen w_default Begins_item (at_word w_unsafe or_else at_word w_impl) (λ f. told_first Begins_item (at_word w_unsafe or_else at_word w_impl) asked_by_name f refl refl)
+default_item_seen = marked_seen w_default Begins_item (at_word w_unsafe or_else at_word w_impl) (λ f. reported_first Begins_item (at_word w_unsafe or_else at_word w_impl) asked_by_name f refl refl)
 
 pub static_item_seen : (ts : Stream) → sees at_static_item ts ≡ and (sees (at_word w_static) ts) (or (sees (at_word w_mut) (past ts)) (sees at_name (past ts)))
 unfolding sees
-static_item_seen = marked_seen w_static Begins_item (at_word w_mut or_else at_name) (λ f. told_first Begins_item (at_word w_mut or_else at_name) [] f refl refl)
+static_item_seen = marked_seen w_static Begins_item (at_word w_mut or_else at_name) (λ f. reported_first Begins_item (at_word w_mut or_else at_name) [] f refl refl)
 
-abbrev behind_async : Look
-behind_async = at_word w_unsafe or_else at_word w_extern or_else at_word w_fn
+abbrev after_async : Look
+after_async = at_word w_unsafe or_else at_word w_extern or_else at_word w_fn
 
 pub async_item_seen : (ts : Stream) → sees at_async_item ts ≡ and (sees (at_word w_async) ts) (or (sees (at_word w_unsafe) (past ts)) (or (sees (at_word w_extern) (past ts)) (sees (at_word w_fn) (past ts))))
 unfolding sees
-async_item_seen = marked_seen w_async Begins_item behind_async (λ f. told_first Begins_item behind_async [] f refl refl)
+async_item_seen = marked_seen w_async Begins_item after_async (λ f. reported_first Begins_item after_async [] f refl refl)
 
 pub const_item_seen : (ts : Stream) → sees at_const_item ts ≡ and (sees (at_word w_const) ts) (no (sees at_const_expression (past ts)))
-const_item_seen = unmarked_seen w_const Not_item at_const_expression (λ f. told_first Not_item at_const_expression [] f refl refl)
+const_item_seen = unmarked_seen w_const Not_item at_const_expression (λ f. reported_first Not_item at_const_expression [] f refl refl)
 
 pub unsafe_item_seen : (ts : Stream) → sees at_unsafe_item ts ≡ and (sees (at_word w_unsafe) ts) (no (sees (at_group Brace) (past ts)))
-unsafe_item_seen = unmarked_seen w_unsafe Not_item (at_group Brace) (λ f. told_first Not_item (at_group Brace) [] f refl refl)
+unsafe_item_seen = unmarked_seen w_unsafe Not_item (at_group Brace) (λ f. reported_first Not_item (at_group Brace) [] f refl refl)
 
 -- `async` without an item after it, after `const`
 pub const_expression_seen : (ts : Stream) → sees at_const_expression ts ≡ or (sees (at_group Brace) ts) (or (sees (at_word w_static) ts) (or (sees (at_word w_move) ts) (or (sees (at_mark bar) ts) (and (sees (at_word w_async) ts) (no (sees at_async_item ts))))))
@@ -75,7 +75,7 @@ const_expression_seen ts = ap (λ b. or (sees (at_group Brace) ts) (or (sees (at
     without false b = refl
 
 default_seen : (ts : Stream) → sees (at_word w_default and_also ahead Before_colons) ts ≡ and (sees (at_word w_default) ts) (sees (at_mark colons) (past ts))
-default_seen = marked_seen w_default Before_colons (at_mark colons) (λ f. told_of_word Before_colons refl refl refl refl refl refl refl f w_default refl ∙ told_first Before_colons (at_mark colons) ((at_mark exclamation but_not at_mark not_equals or_else at_mark colons and_also ahead Before_macro, Before_macro) ∷ asked_of_path at_path_rest) f refl refl)
+default_seen = marked_seen w_default Before_colons (at_mark colons) (λ f. known_of_word Before_colons refl refl refl refl refl refl refl f w_default refl ∙ reported_first Before_colons (at_mark colons) ((at_mark exclamation but_not at_mark not_equals or_else at_mark colons and_also ahead Before_macro, Before_macro) ∷ asked_of_path at_path_rest) f refl refl)
 
 pub no_macro_item_seen : (ts : Stream) → sees at_no_macro_item ts ≡ or (sees (at_word w_Self_type) ts) (and (sees (at_word w_default) ts) (sees (at_mark colons) (past ts)))
 no_macro_item_seen ts = sees_or (at_word w_Self_type) (at_word w_default and_also ahead Before_colons) ts ∙ ap (or (sees (at_word w_Self_type) ts)) (default_seen ts)
@@ -83,10 +83,10 @@ no_macro_item_seen ts = sees_or (at_word w_Self_type) (at_word w_default and_als
 -- RECEIVERS
 pub own_self_seen : (ts : Stream) → sees at_own_self ts ≡ and (sees (at_word w_self) ts) (no (sees at_colons (past ts)))
 unfolding sees
-own_self_seen ts = and_same (sees (at_word w_self) ts) _ _ (λ h. ap no (word_tells ts (self_is_word ts h)).2)
+own_self_seen ts = and_same (sees (at_word w_self) ts) _ _ (λ h. ap no (word_settles ts (self_is_word ts h)).2)
 
 mut_seen : (ts : Stream) → sees (at_word w_mut and_also ahead Before_own_self) ts ≡ and (sees (at_word w_mut) ts) (sees at_own_self (past ts))
-mut_seen = marked_seen w_mut Before_own_self at_own_self (λ f. told_first Before_own_self at_own_self [] f refl refl)
+mut_seen = marked_seen w_mut Before_own_self at_own_self (λ f. reported_first Before_own_self at_own_self [] f refl refl)
 
 pub receiver_seen : (ts : Stream) → sees at_receiver ts ≡ or (sees at_ampersand ts) (or (and (sees (at_word w_mut) ts) (sees at_own_self (past ts))) (sees at_own_self ts))
 unfolding sees
@@ -96,10 +96,10 @@ receiver_seen ts = ap (λ b. or (sees at_ampersand ts) (or b (sees at_own_self t
 pub unnamed_seen : (ts : Stream) → sees (at_unnamed Before_less) ts ≡ and (sees at_name ts) (sees (at_mark less) (past ts))
 unfolding sees lookahead_at
 unnamed_seen end = refl
-unnamed_seen (leaf (ident x) sp m) = and_same (sees at_name (leaf (ident x) sp m)) _ _ (λ h. told_of_name Before_less refl refl (lookahead m) x h ∙ less_told (lookahead m))
+unnamed_seen (leaf (ident x) sp m) = and_same (sees at_name (leaf (ident x) sp m)) _ _ (λ h. known_of_name Before_less refl refl (lookahead m) x h ∙ less_known (lookahead m))
   where
-    less_told : (f : Lookahead) → has_fact Before_less (facts_for asked_by_name f) ≡ answers (at_mark less) f
-    less_told f = passed Before_less asked_by_name f refl ∙ passed Before_less (others asked_by_name) f refl ∙ told_first Before_less (at_mark less) (others (others (others asked_by_name))) f refl refl
+    less_known : (f : Lookahead) → has_fact Before_less (facts_for asked_by_name f) ≡ answers (at_mark less) f
+    less_known f = passed Before_less asked_by_name f refl ∙ passed Before_less (others asked_by_name) f refl ∙ reported_first Before_less (at_mark less) (others (others (others asked_by_name))) f refl refl
 unnamed_seen (leaf (literal k x) sp m) = refl
 unnamed_seen (punct c j sp m) = and_same (sees at_name (punct c j sp m)) _ _ (λ h. absurd (true≢false (sym h ∙ no_name c j sp m)))
 unnamed_seen (group d o c i m) = refl
@@ -130,13 +130,13 @@ of_five a b c d e n =
     of_two a _ n ∙ ap (or (and a n)) (of_two b _ n ∙ ap (or (and b n)) (of_two c _ n ∙ ap (or (and c n)) (of_two d e n)))
 
 -- a row of eleven, and the others
-behind_eleven : (a b c d e f g h i j k x : Bool) → or a (or b (or c (or d (or e (or f (or g (or h (or i (or j (or k x)))))))))) ≡ or (or (or a (or b (or c (or d e)))) (or f (or g (or h (or i (or j k)))))) x
-behind_eleven true b c d e f g h i j k x = refl
-behind_eleven false true c d e f g h i j k x = refl
-behind_eleven false false true d e f g h i j k x = refl
-behind_eleven false false false true e f g h i j k x = refl
-behind_eleven false false false false true f g h i j k x = refl
-behind_eleven false false false false false f g h i j k x = behind_six f g h i j k x
+after_eleven : (a b c d e f g h i j k x : Bool) → or a (or b (or c (or d (or e (or f (or g (or h (or i (or j (or k x)))))))))) ≡ or (or (or a (or b (or c (or d e)))) (or f (or g (or h (or i (or j k)))))) x
+after_eleven true b c d e f g h i j k x = refl
+after_eleven false true c d e f g h i j k x = refl
+after_eleven false false true d e f g h i j k x = refl
+after_eleven false false false true e f g h i j k x = refl
+after_eleven false false false false true f g h i j k x = refl
+after_eleven false false false false false f g h i j k x = after_six f g h i j k x
 
 in_order : (c a b m n : Bool) → or c (or (or a b) (or m n)) ≡ or (or a (or b m)) (or c n)
 in_order true a b m n = sym (or_true (or a (or b m)))
@@ -147,7 +147,7 @@ in_order false false false m n = refl
 pub item_seen : (ts : Stream) → sees at_item ts ≡ or (sees at_item_word ts) (or (sees at_marked_word ts) (or (sees at_crate_item ts) (sees at_named_macro ts)))
 unfolding sees
 item_seen ts =
-    behind_eleven (sees (at_word w_pub) ts) (sees (at_word w_extern) ts) (sees (at_word w_use) ts) (sees (at_word w_fn) ts) (sees (at_word w_mod) ts) (sees (at_word w_type) ts) (sees (at_word w_struct) ts) (sees (at_word w_enum) ts) (sees (at_word w_trait) ts) (sees (at_word w_impl) ts) (sees (at_word w_macro) ts) _
+    after_eleven (sees (at_word w_pub) ts) (sees (at_word w_extern) ts) (sees (at_word w_use) ts) (sees (at_word w_fn) ts) (sees (at_word w_mod) ts) (sees (at_word w_type) ts) (sees (at_word w_struct) ts) (sees (at_word w_enum) ts) (sees (at_word w_trait) ts) (sees (at_word w_impl) ts) (sees (at_word w_macro) ts) _
     ∙ ap (or (sees at_item_word ts))
     (ap₂ (λ a b. or (sees at_crate_item ts) (or a (or b (sees at_named_macro ts))))
     (of_two (sees (at_word w_const) ts) (sees (at_word w_unsafe) ts) (no (sees (ahead Not_item) ts)))

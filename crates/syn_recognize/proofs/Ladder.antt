@@ -19,7 +19,7 @@ use Rattle.syn_tokens.specs.declared.delimiter.Delimiter.TheVariants as D
 use Rattle.syn_recognize.specs.May.{may}
 use Rattle.syn_recognize.proofs.Copied.{rule_is, shaped_is, then_is, when_is, empty_is, unshown_is}
 use Rattle.syn_recognize.proofs.WrittenAside.{hidden_absent}
-use Rattle.syn_recognize.specs.Steps.{todo, Leading, GoesOn}
+use Rattle.syn_recognize.specs.Steps.{todo, Leading, Proceeds}
 use Rattle.syn_recognize.specs.declared.step.Step.{Step}
 use Rattle.syn_recognize.specs.declared.step.Step.TheVariants as Step-m
 use Rattle.syn_recognize.proofs.Todo.{push, goes_first, goes_back, goes_read}
@@ -252,16 +252,16 @@ all_quiet (F.Group D.Paren) e = absurd (true≢false (sym e))
 all_quiet (F.Group D.Bracket) e = absurd (true≢false (sym e))
 all_quiet (F.Group D.None) e = absurd (true≢false (sym e))
 
-nothing_behind : (k n : ℕ) (f : First) (w : Written) (ts : Stream) → Begins f ts → ends f ≡ true → climb k n w ts ≡ Reached w ts
+nothing_after : (k n : ℕ) (f : First) (w : Written) (ts : Stream) → Begins f ts → ends f ≡ true → climb k n w ts ≡ Reached w ts
 unfolding level_form
-nothing_behind zero n f w ts b e = refl
-nothing_behind (suc k) n f w ts b e =
+nothing_after zero n f w ts b e = refl
+nothing_after (suc k) n f w ts b e =
     ap (λ o. next o (climb k (suc n))) (of_level n (level_form n) refl w ts ∙ silent (level_form n) f w ts b (each_quiet ladder f (all_quiet f e) n))
-    ∙ nothing_behind k (suc n) f w ts b e
+    ∙ nothing_after k (suc n) f w ts b e
 
 pub passes_ended : (n k : ℕ) (f : First) → ends f ≡ true → Passes n k k f
 unfolding Passes
-passes_ended n k f e = λ w ts b. nothing_behind (k - n) n f w ts b e ∙ sym (none_left k k w ts (omega arith))
+passes_ended n k f e = λ w ts b. nothing_after (k - n) n f w ts b e ∙ sym (none_left k k w ts (omega arith))
 
 -- WHAT IS READ BY LEVELS
 
@@ -278,14 +278,14 @@ pub level_read : {E : Type 0} (refusal : E → Type 0) (n k : ℕ) (g : Grammar)
     m ≡ l ++ Step-m.Levels (n + 1) k ∷ [] → Leading refusal m (copy_form g w ts) x i v r → Leading refusal l (climb (k - n) n w ts) x i v r
 level_read refusal n k g l m w v ts r x i h e p s =
     goes_read refusal l m i (climb (k - n) n w ts) g w v ts r x
-    (subst (λ j. GoesOn l (climb (k - n) n w ts) j g w ts) (sym p) (goes_first l (Step-m.Levels (n + 1) k) (climb (k - n) n w ts) g w ts (begun n k g w ts h e))) s
+    (subst (λ j. Proceeds l (climb (k - n) n w ts) j g w ts) (sym p) (goes_first l (Step-m.Levels (n + 1) k) (climb (k - n) n w ts) g w ts (begun n k g w ts h e))) s
 
 -- deferred levels continue with the first one that may read something
 pub goes_up : (l m : List Step) (n k j : ℕ) (f : First) (g : Grammar) (w : Written) (ts : Stream) → Passes n k j f → Begins f ts → j < k → parse_form g ≡ parse_form (level_form j) → m ≡ l ++ Step-m.Levels (j + 1) k ∷ [] →
-    GoesOn (l ++ Step-m.Levels n k ∷ []) (Reached w ts) m g w ts
+    Proceeds (l ++ Step-m.Levels n k ∷ []) (Reached w ts) m g w ts
 unfolding Passes
 goes_up l m n k j f g w ts h b i e p =
-    subst (λ (x : List Step). GoesOn (l ++ Step-m.Levels n k ∷ []) (Reached w ts) x g w ts) (sym p)
+    subst (λ (x : List Step). Proceeds (l ++ Step-m.Levels n k ∷ []) (Reached w ts) x g w ts) (sym p)
     (record {
       same =
           push l (Step-m.Levels n k) (Reached w ts) ∙ ap (todo l) (h w ts b)
@@ -293,5 +293,5 @@ goes_up l m n k j f g w ts h b i e p =
     })
 
 -- by none
-pub goes_past : (l : List Step) (n k j : ℕ) (f : First) (w : Written) (ts : Stream) → Passes n k j f → Begins f ts → k ≤ j → GoesOn (l ++ Step-m.Levels n k ∷ []) (Reached w ts) l empty w ts
+pub goes_past : (l : List Step) (n k j : ℕ) (f : First) (w : Written) (ts : Stream) → Passes n k j f → Begins f ts → k ≤ j → Proceeds (l ++ Step-m.Levels n k ∷ []) (Reached w ts) l empty w ts
 goes_past l n k j f w ts h b i = goes_back l (Step-m.Levels n k) (Reached w ts) empty w ts (levels_end n k j f w ts h b i ∙ sym (empty_is w ts))

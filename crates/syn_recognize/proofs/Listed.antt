@@ -45,8 +45,8 @@ module _ (f : First) (ts : Stream) (b : Begins f ts) (q : loud (table attributes
   unmarked : (w : Written) → copy_form (rule attributes) w ts ≡ Reached w ts
   unmarked w = rule_is attributes (table attributes) w ts refl ∙ silent (table attributes) f w ts b q
 
-  behind : (g h : Grammar) (w : Written) → copy_form (rule attributes & (when at_item then g else h)) w ts ≡ copy_form h w ts
-  behind g h w =
+  following : (g h : Grammar) (w : Written) → copy_form (rule attributes & (when at_item then g else h)) w ts ≡ copy_form h w ts
+  following g h w =
       then_is (rule attributes) (when at_item then g else h) w ts ∙ ap (λ o. next o (copy_form (when at_item then g else h))) (unmarked w)
       ∙ when_is at_item g h w ts ∙ ap (λ a. pick a (copy_form g w ts) (copy_form h w ts)) e
 
@@ -62,10 +62,10 @@ module _ (f : First) (ts : Stream) (b : Begins f ts) (q : loud (table attributes
       then_is (shaped an_item (rule kept_in_block)) (rule statements) w ts
       ∙ ap (λ o. next o (copy_form (rule statements)))
       (shaped_is an_item (rule kept_in_block) w ts ∙ rule_is kept_in_block (table kept_in_block) w ts refl ∙ captured_is kept w ts
-      ∙ ap (λ o. next o (capturing w ts)) (behind (first (second kept)) (second (second kept)) unwritten ∙ nothing unwritten))
+      ∙ ap (λ o. next o (capturing w ts)) (following (first (second kept)) (second (second kept)) unwritten ∙ nothing unwritten))
 
   other : (w : Written) → copy_form list w ts ≡ copy_form (rule statement_rest) w ts
-  other w = none_first (first list) (second list) w ts (not_kept w) ∙ behind (first (second (second list))) (rule statement_rest) w
+  other w = none_first (first list) (second list) w ts (not_kept w) ∙ following (first (second (second list))) (rule statement_rest) w
 
 -- the form of a list, where no attribute is next
 abbrev pub listed : Grammar

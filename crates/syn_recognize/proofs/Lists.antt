@@ -8,7 +8,7 @@ use Rattle.syn_grammar.specs.Take.{Out, Parser, sees, take_mark}
 use Rattle.syn_grammar.specs.Run.{wrap, parse_form, rows, row_from, row_member, row_after, row_comma, last, more, span_of}
 use Rattle.syn_grammar.proofs.Run.{row_is}
 use Rattle.syn_grammar.proofs.Streams.{append_append}
-use Rattle.syn_grammar.proofs.Takes.{mark_told}
+use Rattle.syn_grammar.proofs.Takes.{mark_known}
 use Rattle.syn_tokens.specs.Spans.{at}
 use Rattle.syn_tokens.specs.Building.{added}
 use Rattle.syn_tokens.specs.Leaves.{syntax_of_mark}
@@ -16,7 +16,7 @@ use Rattle.syn_tokens.specs.declared.span.Span.{Span as T_Span}
 use Rattle.syn_recognize.specs.Late.{guess_of}
 use Rattle.syn_recognize.specs.declared.late.Late.{Late}
 use Rattle.syn_recognize.specs.declared.list.List as list
-use Rattle.syn_recognize.specs.Ordered.{first_form, other_form, member, Tells}
+use Rattle.syn_recognize.specs.Ordered.{first_form, other_form, member, Settles}
 use Rattle.syn_recognize.specs.PrintedRows.{way, with_comma, firsts, print_firsts, others_of, print_row, row_of}
 use Rattle.syn_recognize.specs.Written.{Written, adds, blank, stream_of}
 use Rattle.syn_recognize.specs.Guesses.{Guesses, same_guess, same_guesses}
@@ -29,7 +29,7 @@ use Rattle.syn_recognize.proofs.Copied.{nothing}
 -- A COMMA
 
 comma_is : (a : Bool) (ts : Stream) (p : Syntax × Stream) → take_mark comma ts ≡ Some p → way a p.0 ≡ punct 44 false (span_of p.0) end
-comma_is a ts p e = let (xs, i, q, h) = mark_told comma ts p e in go xs p.0 q i
+comma_is a ts p e = let (xs, i, q, h) = mark_known comma ts p e in go xs p.0 q i
   where
     go : (xs : List (ℕ × Span)) (s : Syntax) → chars xs ≡ comma → s ≡ Mark xs → way a s ≡ punct 44 false (span_of s) end
     go [] s q i = absurd (cc q)
@@ -46,27 +46,27 @@ module _ (k : list.List) where
   abbrev members : Parser
   members = rows (member k)
 
-  pub none_stands : (ts : Stream) → sees at_row_end ts ≡ true → members ts ≡ Some (Done, ts)
-  none_stands ts e = row_is (first_form k) (other_form k) ts ∙ ap (λ a. row_from a (member k) members ts) e
+  pub none_present : (ts : Stream) → sees at_row_end ts ≡ true → members ts ≡ Some (Done, ts)
+  none_present ts e = row_is (first_form k) (other_form k) ts ∙ ap (λ a. row_from a (member k) members ts) e
 
-  pub one_stands : (ts : Stream) → sees at_row_end ts ≡ false → members ts ≡ row_member (member k ts) members
-  one_stands ts e = row_is (first_form k) (other_form k) ts ∙ ap (λ a. row_from a (member k) members ts) e
+  pub one_present : (ts : Stream) → sees at_row_end ts ≡ false → members ts ≡ row_member (member k ts) members
+  one_present ts e = row_is (first_form k) (other_form k) ts ∙ ap (λ a. row_from a (member k) members ts) e
 
-  first_stands : (ts : Stream) → sees at_row_end ts ≡ false → Tells k ts true → members ts ≡ row_member (wrap Left (parse_form (first_form k) ts)) members
-  first_stands ts e h = one_stands ts e ∙ ap (λ o. row_member o members) h.is
+  first_present : (ts : Stream) → sees at_row_end ts ≡ false → Settles k ts true → members ts ≡ row_member (wrap Left (parse_form (first_form k) ts)) members
+  first_present ts e h = one_present ts e ∙ ap (λ o. row_member o members) h.is
 
-  other_stands : (ts : Stream) → sees at_row_end ts ≡ false → Tells k ts false → members ts ≡ row_member (wrap Right (parse_form (other_form k) ts)) members
-  other_stands ts e h = one_stands ts e ∙ ap (λ o. row_member o members) h.is
+  other_present : (ts : Stream) → sees at_row_end ts ≡ false → Settles k ts false → members ts ≡ row_member (wrap Right (parse_form (other_form k) ts)) members
+  other_present ts e h = one_present ts e ∙ ap (λ o. row_member o members) h.is
 
 -- A MEMBER is written, and then its comma and what follows, or nothing; in one way of writing lists, by what it does with one member
 module _ (write : Written → Out → Copy) (finish : Written → Stream → Copy) (none : (w : Written) → write w None ≡ Refused) (l : Parser) (w : Written) where
-  abbrev goes_on : Written → Stream → Copy
-  goes_on v r = pick (sees at_row_comma r) (next (copied v (take_mark comma r)) (λ v r. write v (l r))) (finish v r)
+  abbrev proceeds : Written → Stream → Copy
+  proceeds v r = pick (sees at_row_comma r) (next (copied v (take_mark comma r)) (λ v r. write v (l r))) (finish v r)
 
   member_is : (f : Syntax → Syntax) →
       ((s : Syntax) (sp : Span) (o : Out) → write w (wrap (more (f s) sp) o) ≡ write (adds (adds w (way w.printing s)) (punct 44 false sp end)) o) →
       ((s : Syntax) (r : Stream) → write w (Some (last (f s), r)) ≡ finish (adds w (way w.printing s)) r) →
-      (o : Out) → write w (row_member (wrap f o) l) ≡ next (copied w o) goes_on
+      (o : Out) → write w (row_member (wrap f o) l) ≡ next (copied w o) proceeds
   unfolding adds
   member_is f m n None = none w
   member_is f m n (Some p) = go (sees at_row_comma p.1)
@@ -89,21 +89,21 @@ module _ (write : Written → Out → Copy) (finish : Written → Stream → Cop
 
 pub row_done : (k : list.List) (w : Written) (ts : Stream) → sees at_row_end ts ≡ true → copy_row k w ts ≡ Reached w ts
 unfolding copy_row
-row_done k w ts e = ap (copied_row w) (none_stands k ts e) ∙ nothing w _ ts (row_done_is w.printing)
+row_done k w ts e = ap (copied_row w) (none_present k ts e) ∙ nothing w _ ts (row_done_is w.printing)
 
 -- a first member before all others is written as it is read
-pub row_first : (k : list.List) (w : Written) (ts : Stream) → sees at_row_end ts ≡ false → Tells k ts true → copy_row k w ts ≡ next (copy_form (first_form k) w ts) (after_member k)
+pub row_first : (k : list.List) (w : Written) (ts : Stream) → sees at_row_end ts ≡ false → Settles k ts true → copy_row k w ts ≡ next (copy_form (first_form k) w ts) (after_member k)
 unfolding copy_row copy_form adds
-row_first k w ts e h = ap (copied_row w) (first_stands k ts e h) ∙ member_is copied_row Reached (λ v. refl) (members k) w Left told (λ s r. ap (λ i. Reached (adds w i) r) (row_last_is w.printing s)) (parse_form (first_form k) ts)
+row_first k w ts e h = ap (copied_row w) (first_present k ts e h) ∙ member_is copied_row Reached (λ v. refl) (members k) w Left reported (λ s r. ap (λ i. Reached (adds w i) r) (row_last_is w.printing s)) (parse_form (first_form k) ts)
   where
-    told : (s : Syntax) (sp : Span) (o : Out) → copied_row w (wrap (More true s sp) o) ≡ copied_row (adds (adds w (way w.printing s)) (punct 44 false sp end)) o
-    told s sp None = refl
-    told s sp (Some p) = ap (λ i. Reached (adds w i) p.1) (row_more_is w.printing s sp p.0) ∙ ap (λ v. Reached v p.1) (commas w (way w.printing s) sp (row_of w.printing p.0))
+    reported : (s : Syntax) (sp : Span) (o : Out) → copied_row w (wrap (More true s sp) o) ≡ copied_row (adds (adds w (way w.printing s)) (punct 44 false sp end)) o
+    reported s sp None = refl
+    reported s sp (Some p) = ap (λ i. Reached (adds w i) p.1) (row_more_is w.printing s sp p.0) ∙ ap (λ v. Reached v p.1) (commas w (way w.printing s) sp (row_of w.printing p.0))
 
 -- so is each other member, where lists are shown
-pub row_other : (k : list.List) (w : Written) (ts : Stream) → sees at_row_end ts ≡ false → Tells k ts false → w.printing ≡ false → copy_row k w ts ≡ next (copy_form (other_form k) w ts) (after_member k)
+pub row_other : (k : list.List) (w : Written) (ts : Stream) → sees at_row_end ts ≡ false → Settles k ts false → w.printing ≡ false → copy_row k w ts ≡ next (copy_form (other_form k) w ts) (after_member k)
 unfolding copy_row copy_form adds
-row_other k w ts e h shown = ap (copied_row w) (other_stands k ts e h) ∙ member_is copied_row Reached (λ v. refl) (members k) w Right told ended (parse_form (other_form k) ts)
+row_other k w ts e h shown = ap (copied_row w) (other_present k ts e h) ∙ member_is copied_row Reached (λ v. refl) (members k) w Right reported ended (parse_form (other_form k) ts)
   where
     more_is : (a : Bool) → a ≡ false → (s : Syntax) (sp : Span) (t : Syntax) → row_of a (More false s sp t) ≡ with_comma (way a s) sp (row_of a t)
     more_is true k s sp t = absurd (true≢false k)
@@ -113,9 +113,9 @@ row_other k w ts e h shown = ap (copied_row w) (other_stands k ts e h) ∙ membe
     last_is true k s = absurd (true≢false k)
     last_is false k s = refl
 
-    told : (s : Syntax) (sp : Span) (o : Out) → copied_row w (wrap (More false s sp) o) ≡ copied_row (adds (adds w (way w.printing s)) (punct 44 false sp end)) o
-    told s sp None = refl
-    told s sp (Some p) = ap (λ i. Reached (adds w i) p.1) (more_is w.printing shown s sp p.0) ∙ ap (λ v. Reached v p.1) (commas w (way w.printing s) sp (row_of w.printing p.0))
+    reported : (s : Syntax) (sp : Span) (o : Out) → copied_row w (wrap (More false s sp) o) ≡ copied_row (adds (adds w (way w.printing s)) (punct 44 false sp end)) o
+    reported s sp None = refl
+    reported s sp (Some p) = ap (λ i. Reached (adds w i) p.1) (more_is w.printing shown s sp p.0) ∙ ap (λ v. Reached v p.1) (commas w (way w.printing s) sp (row_of w.printing p.0))
 
     ended : (s : Syntax) (r : Stream) → copied_row w (Some (Last false s, r)) ≡ Reached (adds w (way w.printing s)) r
     ended s r = ap (λ i. Reached (adds w i) r) (last_is w.printing shown s)
@@ -133,31 +133,31 @@ noted_is k w ts a = go (parse_form (first_form k) ts) refl
 
 pub others_done : (k : list.List) (w : Written) (ts : Stream) → sees at_row_end ts ≡ true → copy_others k [] w ts ≡ Reached w ts
 unfolding copy_others
-others_done k w ts e = ap (copied_others [] w) (none_stands k ts e) ∙ nothing w _ ts (others_done_is w.printing)
+others_done k w ts e = ap (copied_others [] w) (none_present k ts e) ∙ nothing w _ ts (others_done_is w.printing)
 
 -- another member is written
 others_right : (k : list.List) (l : Guesses) (w : Written) (o : Out) → copied_others l w (row_member (wrap Right o) (members k)) ≡ next (copied w o) (after_other k l)
 unfolding copy_others adds
-others_right k l w o = member_is (copied_others l) (none_left l) (λ v. refl) (members k) w Right told ended o
+others_right k l w o = member_is (copied_others l) (none_left l) (λ v. refl) (members k) w Right reported ended o
   where
     more_is : (a : Bool) (s : Syntax) (sp : Span) (t : Syntax) → others_of a (More false s sp t) ≡ with_comma (way a s) sp (others_of a t)
     more_is a s sp t = refl
 
-    told : (s : Syntax) (sp : Span) (o : Out) → copied_others l w (wrap (More false s sp) o) ≡ copied_others l (adds (adds w (way w.printing s)) (punct 44 false sp end)) o
-    told s sp None = refl
-    told s sp (Some p) = ap (λ v. pick (same_guesses (firsts p.0) l) (Reached v p.1) Stuck) (commas w (way w.printing s) sp (others_of w.printing p.0))
+    reported : (s : Syntax) (sp : Span) (o : Out) → copied_others l w (wrap (More false s sp) o) ≡ copied_others l (adds (adds w (way w.printing s)) (punct 44 false sp end)) o
+    reported s sp None = refl
+    reported s sp (Some p) = ap (λ v. pick (same_guesses (firsts p.0) l) (Reached v p.1) Stuck) (commas w (way w.printing s) sp (others_of w.printing p.0))
 
     ended : (s : Syntax) (r : Stream) → copied_others l w (Some (Last false s, r)) ≡ none_left l (adds w (way w.printing s)) r
     ended s r = ap (λ i. pick (same_guesses [] l) (Reached (adds w i) r) Stuck) (others_last_is w.printing s)
 
-pub others_other : (k : list.List) (l : Guesses) (w : Written) (ts : Stream) → sees at_row_end ts ≡ false → Tells k ts false → copy_others k l w ts ≡ next (copy_form (other_form k) w ts) (after_other k l)
+pub others_other : (k : list.List) (l : Guesses) (w : Written) (ts : Stream) → sees at_row_end ts ≡ false → Settles k ts false → copy_others k l w ts ≡ next (copy_form (other_form k) w ts) (after_other k l)
 unfolding copy_others copy_form
-others_other k l w ts e h = ap (copied_others l w) (other_stands k ts e h) ∙ others_right k l w (parse_form (other_form k) ts)
+others_other k l w ts e h = ap (copied_others l w) (other_present k ts e h) ∙ others_right k l w (parse_form (other_form k) ts)
 
 -- a member that was guessed isn't written again
-pub others_late : (k : list.List) (l : Guesses) (w : Written) (ts : Stream) → sees at_row_end ts ≡ false → Tells k ts true → Leads (copy_others k l w ts) (next (copy_form (first_form k) (blank true) ts) (after_late k l w))
+pub others_late : (k : list.List) (l : Guesses) (w : Written) (ts : Stream) → sees at_row_end ts ≡ false → Settles k ts true → Leads (copy_others k l w ts) (next (copy_form (first_form k) (blank true) ts) (after_late k l w))
 unfolding copy_others copy_form adds added
-others_late k l w ts e h = subst (λ o. Leads (copied_others l w o) (next (copied (blank true) (parse_form (first_form k) ts)) (after_late k l w))) (sym (first_stands k ts e h)) (member_read (parse_form (first_form k) ts))
+others_late k l w ts e h = subst (λ o. Leads (copied_others l w o) (next (copied (blank true) (parse_form (first_form k) ts)) (after_late k l w))) (sym (first_present k ts e h)) (member_read (parse_form (first_form k) ts))
   where
     more_read : (s : Syntax) (sp : Span) (m : Guesses) (o : Out) → Leads (copied_others m w (wrap (More true s sp) o)) (guessed m (print s) sp (λ n. copied_others n w o))
     more_read s sp [] None = tt
@@ -263,9 +263,9 @@ module _ (l : Guesses) (w : Written) (printed : w.printing ≡ true) where
       go true = comma_read (take_mark comma p.1)
       go false = guessed_tree (Last false p.0) p.1 refl
 
-pub row_guessed : (k : list.List) (l : Guesses) (w : Written) (ts : Stream) → sees at_row_end ts ≡ false → Tells k ts false → w.printing ≡ true →
+pub row_guessed : (k : list.List) (l : Guesses) (w : Written) (ts : Stream) → sees at_row_end ts ≡ false → Settles k ts false → w.printing ≡ true →
     Leads (copy_row k w ts) (next (copy_form (other_form k) (adds w (print_firsts l)) ts) (after_other k l))
 unfolding copy_row copy_form
 row_guessed k l w ts e h p =
-    subst (λ o. Leads (copied_row w o) (next (copied (adds w (print_firsts l)) (parse_form (other_form k) ts)) (after_other k l))) (sym (other_stands k ts e h))
+    subst (λ o. Leads (copied_row w o) (next (copied (adds w (print_firsts l)) (parse_form (other_form k) ts)) (after_other k l))) (sym (other_present k ts e h))
     (subst (Leads (copied_row w (row_member (wrap Right (parse_form (other_form k) ts)) (members k)))) (others_right k l (adds w (print_firsts l)) (parse_form (other_form k) ts)) (guessed_list l w p (parse_form (other_form k) ts) (members k)))

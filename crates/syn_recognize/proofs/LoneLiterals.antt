@@ -27,7 +27,7 @@ use Rattle.syn_recognize.specs.Printed.{ShowsAndPrints}
 use Rattle.syn_recognize.specs.declared.reading.ShownAndPrinted.{ShownAndPrinted}
 
 -- ---- what is read of a literal, by the tokens after it
-module _ (k : LitKind) (x : Text) (sp : Span) (behind : Lookahead) where
+module _ (k : LitKind) (x : Text) (sp : Span) (following : Lookahead) where
   -- a tree, and whether the rest begins at the literal (true) or after it
   abbrev Walk : Type 0
   Walk = Option (Syntax × Bool)
@@ -42,7 +42,7 @@ module _ (k : LitKind) (x : Text) (sp : Span) (behind : Lookahead) where
 
   abbrev next_at : Bool → Lookahead
   next_at true = lookahead_with (Literal k) []
-  next_at false = behind
+  next_at false = following
 
   abbrev token_at : Bool → Kind → Walk
   token_at true q = only (fits q (literal k x)) (Some (Token (literal k x) sp, false))
@@ -63,7 +63,7 @@ module _ (k : LitKind) (x : Text) (sp : Span) (behind : Lookahead) where
   walk_rule zero q b = None
   walk_rule (suc n) q b = with_tree Node (walk (walk_rule n) (table q) b)
 
-  module _ (r : Stream) (e : lookahead r ≡ behind) where
+  module _ (r : Stream) (e : lookahead r ≡ following) where
     abbrev stream_at : Bool → Stream
     stream_at true = leaf (literal k x) sp r
     stream_at false = r
@@ -122,17 +122,17 @@ module _ (k : LitKind) (x : Text) (sp : Span) (behind : Lookahead) where
 abbrev lone : LitKind → Text → Span → Syntax
 lone k x sp = Node (new Lit (Token (literal k x) sp))
 
-nothing_behind : Lookahead
-nothing_behind = lookahead_with Ended []
+nothing_after : Lookahead
+nothing_after = lookahead_with Ended []
 
-comma_behind : Lookahead
-comma_behind = lookahead_with (Punctuation (44 ∷ [])) []
+comma_after : Lookahead
+comma_after = lookahead_with (Punctuation (44 ∷ [])) []
 
-semicolon_behind : Lookahead
-semicolon_behind = lookahead_with (Punctuation (59 ∷ [])) []
+semicolon_after : Lookahead
+semicolon_after = lookahead_with (Punctuation (59 ∷ [])) []
 
-whole_at_end : (k : LitKind) (x : Text) (sp : Span) → walk_rule k x sp nothing_behind 16 whole_expression true ≡ Some (lone k x sp, false)
-unfolding nothing_behind
+whole_at_end : (k : LitKind) (x : Text) (sp : Span) → walk_rule k x sp nothing_after 16 whole_expression true ≡ Some (lone k x sp, false)
+unfolding nothing_after
 whole_at_end Str x sp = refl
 whole_at_end ByteStr x sp = refl
 whole_at_end CStr x sp = refl
@@ -141,8 +141,8 @@ whole_at_end Char x sp = refl
 whole_at_end Int x sp = refl
 whole_at_end Float x sp = refl
 
-whole_at_comma : (k : LitKind) (x : Text) (sp : Span) → walk_rule k x sp comma_behind 16 whole_expression true ≡ Some (lone k x sp, false)
-unfolding comma_behind
+whole_at_comma : (k : LitKind) (x : Text) (sp : Span) → walk_rule k x sp comma_after 16 whole_expression true ≡ Some (lone k x sp, false)
+unfolding comma_after
 whole_at_comma Str x sp = refl
 whole_at_comma ByteStr x sp = refl
 whole_at_comma CStr x sp = refl
@@ -151,8 +151,8 @@ whole_at_comma Char x sp = refl
 whole_at_comma Int x sp = refl
 whole_at_comma Float x sp = refl
 
-whole_at_semicolon : (k : LitKind) (x : Text) (sp : Span) → walk_rule k x sp semicolon_behind 16 whole_expression true ≡ Some (lone k x sp, false)
-unfolding semicolon_behind
+whole_at_semicolon : (k : LitKind) (x : Text) (sp : Span) → walk_rule k x sp semicolon_after 16 whole_expression true ≡ Some (lone k x sp, false)
+unfolding semicolon_after
 whole_at_semicolon Str x sp = refl
 whole_at_semicolon ByteStr x sp = refl
 whole_at_semicolon CStr x sp = refl
@@ -161,29 +161,29 @@ whole_at_semicolon Char x sp = refl
 whole_at_semicolon Int x sp = refl
 whole_at_semicolon Float x sp = refl
 
-constant_before : (k : LitKind) (x : Text) (sp : Span) (behind : Lookahead) → walk_rule k x sp behind 2 constant true ≡ Some (lone k x sp, false)
-constant_before Str x sp behind = refl
-constant_before ByteStr x sp behind = refl
-constant_before CStr x sp behind = refl
-constant_before Byte x sp behind = refl
-constant_before Char x sp behind = refl
-constant_before Int x sp behind = refl
-constant_before Float x sp behind = refl
+constant_before : (k : LitKind) (x : Text) (sp : Span) (following : Lookahead) → walk_rule k x sp following 2 constant true ≡ Some (lone k x sp, false)
+constant_before Str x sp following = refl
+constant_before ByteStr x sp following = refl
+constant_before CStr x sp following = refl
+constant_before Byte x sp following = refl
+constant_before Char x sp following = refl
+constant_before Int x sp following = refl
+constant_before Float x sp following = refl
 
 -- ---- the tokens after it
-at_end : (r : Stream) → sees ended r ≡ true → lookahead r ≡ nothing_behind
-unfolding is_end nothing_behind
+at_end : (r : Stream) → sees ended r ≡ true → lookahead r ≡ nothing_after
+unfolding is_end nothing_after
 at_end r e = go r (sym (sees_ended r) ∙ e)
   where
-    go : (r : Stream) → is_end r ≡ true → lookahead r ≡ nothing_behind
+    go : (r : Stream) → is_end r ≡ true → lookahead r ≡ nothing_after
     go end h = refl
     go (leaf x sp m) h = absurd (true≢false (sym h))
     go (punct c j sp m) h = absurd (true≢false (sym h))
     go (group d o c i m) h = absurd (true≢false (sym h))
 
 -- a comma begins no longer mark, and depends on nothing after it
-comma_alone : (j : Bool) (f : Terminal) (l : List Fact) → punctuation_lookahead 44 j (lookahead_with f l) ≡ comma_behind
-unfolding comma_behind
+comma_alone : (j : Bool) (f : Terminal) (l : List Fact) → punctuation_lookahead 44 j (lookahead_with f l) ≡ comma_after
+unfolding comma_after
 comma_alone false f l = refl
 comma_alone true Ended l = refl
 comma_alone true Name l = refl
@@ -192,23 +192,23 @@ comma_alone true (Punctuation x) l = refl
 comma_alone true (Literal k) l = refl
 comma_alone true (Delimited d v) l = refl
 
-at_comma : (r : Stream) → sees (at_mark comma) r ≡ true → lookahead r ≡ comma_behind
+at_comma : (r : Stream) → sees (at_mark comma) r ≡ true → lookahead r ≡ comma_after
 unfolding take_mark
 at_comma r e = go r (sym (sees_one 44 r) ∙ e)
   where
-    go : (r : Stream) → taken (take_mark (44 ∷ []) r) ≡ true → lookahead r ≡ comma_behind
+    go : (r : Stream) → taken (take_mark (44 ∷ []) r) ≡ true → lookahead r ≡ comma_after
     go end h = absurd (true≢false (sym h))
     go (leaf x sp m) h = absurd (true≢false (sym h))
     go (punct c j sp m) h = char (nat_eq c 44) refl h
       where
-        char : (b : Bool) → nat_eq c 44 ≡ b → taken (marked (only b (Some ((c, sp) ∷ [], m)))) ≡ true → lookahead (punct c j sp m) ≡ comma_behind
-        char true q h = subst (λ d. lookahead (punct d j sp m) ≡ comma_behind) (sym (eqb-true c 44 q)) (comma_alone j (lookahead m).terminal (lookahead m).facts)
+        char : (b : Bool) → nat_eq c 44 ≡ b → taken (marked (only b (Some ((c, sp) ∷ [], m)))) ≡ true → lookahead (punct c j sp m) ≡ comma_after
+        char true q h = subst (λ d. lookahead (punct d j sp m) ≡ comma_after) (sym (eqb-true c 44 q)) (comma_alone j (lookahead m).terminal (lookahead m).facts)
         char false q h = absurd (true≢false (sym h))
     go (group d o c i m) h = absurd (true≢false (sym h))
 
 -- neither does a semicolon
-semicolon_alone : (j : Bool) (f : Terminal) (l : List Fact) → punctuation_lookahead 59 j (lookahead_with f l) ≡ semicolon_behind
-unfolding semicolon_behind
+semicolon_alone : (j : Bool) (f : Terminal) (l : List Fact) → punctuation_lookahead 59 j (lookahead_with f l) ≡ semicolon_after
+unfolding semicolon_after
 semicolon_alone false f l = refl
 semicolon_alone true Ended l = refl
 semicolon_alone true Name l = refl
@@ -217,17 +217,17 @@ semicolon_alone true (Punctuation x) l = refl
 semicolon_alone true (Literal k) l = refl
 semicolon_alone true (Delimited d v) l = refl
 
-at_semicolon : (r : Stream) → sees (at_mark semicolon) r ≡ true → lookahead r ≡ semicolon_behind
+at_semicolon : (r : Stream) → sees (at_mark semicolon) r ≡ true → lookahead r ≡ semicolon_after
 unfolding take_mark
 at_semicolon r e = go r (sym (sees_one 59 r) ∙ e)
   where
-    go : (r : Stream) → taken (take_mark (59 ∷ []) r) ≡ true → lookahead r ≡ semicolon_behind
+    go : (r : Stream) → taken (take_mark (59 ∷ []) r) ≡ true → lookahead r ≡ semicolon_after
     go end h = absurd (true≢false (sym h))
     go (leaf x sp m) h = absurd (true≢false (sym h))
     go (punct c j sp m) h = char (nat_eq c 59) refl h
       where
-        char : (b : Bool) → nat_eq c 59 ≡ b → taken (marked (only b (Some ((c, sp) ∷ [], m)))) ≡ true → lookahead (punct c j sp m) ≡ semicolon_behind
-        char true q h = subst (λ d. lookahead (punct d j sp m) ≡ semicolon_behind) (sym (eqb-true c 59 q)) (semicolon_alone j (lookahead m).terminal (lookahead m).facts)
+        char : (b : Bool) → nat_eq c 59 ≡ b → taken (marked (only b (Some ((c, sp) ∷ [], m)))) ≡ true → lookahead (punct c j sp m) ≡ semicolon_after
+        char true q h = subst (λ d. lookahead (punct d j sp m) ≡ semicolon_after) (sym (eqb-true c 59 q)) (semicolon_alone j (lookahead m).terminal (lookahead m).facts)
         char false q h = absurd (true≢false (sym h))
     go (group d o c i m) h = absurd (true≢false (sym h))
 
@@ -236,11 +236,11 @@ is_read : (n : ℕ) (k : LitKind) (x : Text) (sp : Span) (r : Stream) → is_ove
 is_read zero k x sp r h = go (or_split (sees ended r) (or (sees (at_mark comma) r) (sees (at_mark semicolon) r)) h)
   where
     mark : (sees (at_mark comma) r ≡ true) ⊎ (sees (at_mark semicolon) r ≡ true) → parse_rule whole_expression (leaf (literal k x) sp r) ≡ Some (lone k x sp, r)
-    mark (inl e) = walked k x sp comma_behind r (at_comma r e) 16 whole_expression (lone k x sp) (whole_at_comma k x sp)
-    mark (inr e) = walked k x sp semicolon_behind r (at_semicolon r e) 16 whole_expression (lone k x sp) (whole_at_semicolon k x sp)
+    mark (inl e) = walked k x sp comma_after r (at_comma r e) 16 whole_expression (lone k x sp) (whole_at_comma k x sp)
+    mark (inr e) = walked k x sp semicolon_after r (at_semicolon r e) 16 whole_expression (lone k x sp) (whole_at_semicolon k x sp)
 
     go : (sees ended r ≡ true) ⊎ (or (sees (at_mark comma) r) (sees (at_mark semicolon) r) ≡ true) → parse_rule whole_expression (leaf (literal k x) sp r) ≡ Some (lone k x sp, r)
-    go (inl e) = walked k x sp nothing_behind r (at_end r e) 16 whole_expression (lone k x sp) (whole_at_end k x sp)
+    go (inl e) = walked k x sp nothing_after r (at_end r e) 16 whole_expression (lone k x sp) (whole_at_end k x sp)
     go (inr e) = mark (or_split (sees (at_mark comma) r) (sees (at_mark semicolon) r) e)
 is_read (suc zero) k x sp r h = walked k x sp (lookahead r) r refl 2 constant (lone k x sp) (constant_before k x sp (lookahead r))
 is_read (suc (suc n)) k x sp r h = absurd (true≢false (sym h))

@@ -9,8 +9,8 @@ use Rattle.syn_grammar.specs.Table.{at_colon, at_colons, at_lone_colon, at_macro
 use Rattle.syn_grammar.proofs.Looks.{sees_one}
 use Rattle.syn_grammar.proofs.Sets.{same_text_eq}
 use Rattle.syn_parse.specs.Peeks.{past}
-use Rattle.syn_recognize.proofs.Facts.{asks, not_told, told_first}
-use Rattle.syn_recognize.proofs.PathLooks.{face, is_path_word, macro_from, others, passed, word_tells}
+use Rattle.syn_recognize.proofs.Facts.{asks, not_known, reported_first}
+use Rattle.syn_recognize.proofs.PathLooks.{face, is_path_word, macro_from, others, passed, word_settles}
 
 or_none : (b : Bool) → or b false ≡ b
 or_none true = refl
@@ -22,7 +22,7 @@ silent n f l = has_fact n (facts_for l f) ≡ false
 
 -- one of two conditions, of which the first doesn't test this fact
 either_way : (n : Fact) (f : Lookahead) (b : Bool) (u v : Asked) → (b ≡ true → asks n u ≡ false) → silent n f v → silent n f (pick b u v)
-either_way n f true u v h k = not_told n u f (h refl)
+either_way n f true u v h k = not_known n u f (h refl)
 either_way n f false u v h k = k
 
 -- a word of no path
@@ -69,7 +69,7 @@ module _ (n : Fact) (own : same_fact n Before_own_self ≡ false) (item : same_f
 
 -- a group
 inside_silent : (n : Fact) (d : Delimiter) (f : Lookahead) → asks n (asked_inside Paren) ≡ false → silent n f (asked_inside d)
-inside_silent n Paren f e = not_told n (asked_inside Paren) f e
+inside_silent n Paren f e = not_known n (asked_inside Paren) f e
 inside_silent n Brace f e = refl
 inside_silent n Bracket f e = refl
 inside_silent n Invisible f e = refl
@@ -145,7 +145,7 @@ unfolding sees lookahead_at
 silent_end n = refl
 
 pub before_colons_seen : (ts : Stream) → sees (ahead Before_colons) ts ≡ and (sees at_path_word ts) (sees at_colons (past ts))
-before_colons_seen ts = by_word (sees at_path_word ts) (sees (ahead Before_colons) ts) (sees at_colons (past ts)) (λ h. (word_tells ts h).2) (others ts)
+before_colons_seen ts = by_word (sees at_path_word ts) (sees (ahead Before_colons) ts) (sees at_colons (past ts)) (λ h. (word_settles ts h).2) (others ts)
   where
     others : (ts : Stream) → sees at_path_word ts ≡ false → sees (ahead Before_colons) ts ≡ false
     others end e = silent_end Before_colons
@@ -162,9 +162,9 @@ mark_of_none c f e =
     (either_way Before_macro f (same_text (c ∷ []) pound) _ _ (λ h. refl)
     (either_way Before_macro f (same_text (c ∷ []) less) _ _ (λ h. refl) refl)))
 
-no_colon_tells : (c : ℕ) (j : Bool) (sp : Span) (m : Stream) → nat_eq c 58 ≡ false → sees (ahead Before_macro) (punct c j sp m) ≡ false
+no_colon_settles : (c : ℕ) (j : Bool) (sp : Span) (m : Stream) → nat_eq c 58 ≡ false → sees (ahead Before_macro) (punct c j sp m) ≡ false
 unfolding sees lookahead_at
-no_colon_tells c j sp m e = go (char_terminal c j (lookahead m).terminal)
+no_colon_settles c j sp m e = go (char_terminal c j (lookahead m).terminal)
   where
     go : (t : Terminal) → has_fact Before_macro (punctuation_facts c t (lookahead m)) ≡ false
     go (Punctuation (x ∷ [])) = mark_of_none c (lookahead m) e
@@ -177,8 +177,8 @@ no_colon_tells c j sp m e = go (char_terminal c j (lookahead m).terminal)
     go (Literal k) = refl
     go (Delimited d v) = refl
 
-colon_told : (f : Lookahead) → has_fact Before_macro (facts_for (asked (Punctuation (58 ∷ []))) f) ≡ answers (at_path_word and_also ahead Before_macro) f
-colon_told f = passed Before_macro (asked (Punctuation (58 ∷ []))) f refl ∙ told_first Before_macro (at_path_word and_also ahead Before_macro) (others (others (asked (Punctuation (58 ∷ []))))) f refl refl
+colon_known : (f : Lookahead) → has_fact Before_macro (facts_for (asked (Punctuation (58 ∷ []))) f) ≡ answers (at_path_word and_also ahead Before_macro) f
+colon_known f = passed Before_macro (asked (Punctuation (58 ∷ []))) f refl ∙ reported_first Before_macro (at_path_word and_also ahead Before_macro) (others (others (asked (Punctuation (58 ∷ []))))) f refl refl
 
 -- a `:` that is joined to the token after it
 abbrev colon_of : Lookahead → Lookahead
@@ -188,17 +188,17 @@ abbrev Single : Lookahead → Type 0
 Single f = answers at_lone_colon (colon_of f) ≡ true → has_fact Before_macro (colon_of f).facts ≡ answers (at_path_word and_also ahead Before_macro) f
 
 single : (t : Terminal) (l : List Fact) → Single (lookahead_with t l)
-single Ended l h = colon_told (lookahead_with Ended l)
-single Name l h = colon_told (lookahead_with Name l)
-single (Word x) l h = colon_told (lookahead_with (Word x) l)
-single (Literal k) l h = colon_told (lookahead_with (Literal k) l)
-single (Delimited d v) l h = colon_told (lookahead_with (Delimited d v) l)
-single (Punctuation []) l h = colon_told (lookahead_with (Punctuation []) l)
+single Ended l h = colon_known (lookahead_with Ended l)
+single Name l h = colon_known (lookahead_with Name l)
+single (Word x) l h = colon_known (lookahead_with (Word x) l)
+single (Literal k) l h = colon_known (lookahead_with (Literal k) l)
+single (Delimited d v) l h = colon_known (lookahead_with (Delimited d v) l)
+single (Punctuation []) l h = colon_known (lookahead_with (Punctuation []) l)
 single (Punctuation (d ∷ m)) l h = go (nat_eq 58 d) refl h
   where
     go : (b : Bool) → nat_eq 58 d ≡ b → Single (lookahead_with (Punctuation (d ∷ m)) l)
     go true e = subst (λ z. Single (lookahead_with (Punctuation (z ∷ m)) l)) (eqb-true 58 d e) (λ h. absurd (true≢false (sym h)))
-    go false e = rw e (λ h. colon_told (lookahead_with (Punctuation (d ∷ m)) l))
+    go false e = rw e (λ h. colon_known (lookahead_with (Punctuation (d ∷ m)) l))
 
 abbrev Double : Lookahead → Type 0
 Double f = answers at_lone_colon (colon_of f) ≡ false → has_fact Before_macro (colon_of f).facts ≡ answers at_macro (colon_of f)
@@ -218,7 +218,7 @@ double (Punctuation (d ∷ m)) l h = go (nat_eq 58 d) refl h
 
 at_single : (j : Bool) (sp : Span) (m : Stream) → sees at_lone_colon (punct 58 j sp m) ≡ true → sees (ahead Before_macro) (punct 58 j sp m) ≡ macro_from m
 unfolding sees lookahead_at
-at_single false sp m h = colon_told (lookahead m)
+at_single false sp m h = colon_known (lookahead m)
 at_single true sp m h = single (lookahead m).terminal (lookahead m).facts h
 
 at_double : (j : Bool) (sp : Span) (m : Stream) → sees at_lone_colon (punct 58 j sp m) ≡ false → sees (ahead Before_macro) (punct 58 j sp m) ≡ sees at_macro (punct 58 j sp m)
@@ -249,7 +249,7 @@ no_single_colon (punct c j sp m) e = go (nat_eq c 58) refl e
   where
     go : (b : Bool) → nat_eq c 58 ≡ b → sees at_lone_colon (punct c j sp m) ≡ false → AsMacro (punct c j sp m)
     go true p = subst (λ z. sees at_lone_colon (punct z j sp m) ≡ false → AsMacro (punct z j sp m)) (sym (eqb-true c 58 p)) (at_double j sp m)
-    go false p = λ h. no_one _ _ (no_colon_tells c j sp m p)
+    go false p = λ h. no_one _ _ (no_colon_settles c j sp m p)
 no_single_colon (group d o c i m) e = no_one _ _ (silent_group Before_macro refl d o c i m)
 
 -- one is

@@ -12,7 +12,7 @@ use Rattle.syn_tokens.specs.Delimiters.{delimiter_of}
 use Rattle.syn_parse.specs.Firsts.{Begins}
 use Rattle.syn_parse.specs.declared.buffer.first.First.{First}
 use Rattle.syn_parse.specs.declared.buffer.first.First.TheVariants as F
-use Rattle.syn_recognize.specs.May.{sure, head_of, is_literal, is_mark, is_one, is_word, may, may_hold, tells}
+use Rattle.syn_recognize.specs.May.{sure, head_of, is_literal, is_mark, is_one, is_word, may, may_hold, settles}
 use Rattle.syn_recognize.specs.Names.{look_of, mark_text}
 use Rattle.syn_recognize.specs.declared.look.Look as look
 use Rattle.syn_recognize.specs.declared.look.Look.TheVariants as Look-m
@@ -372,7 +372,7 @@ mark_sure x (F.Group d) o m = not_so m
 mark_sure [] (F.Mark c) o m = not_so o
 mark_sure (e ∷ g ∷ l) (F.Mark c) o m = not_so o
 
-pub look_sure : (l : look.Look) (f : First) (ts : Stream) → Begins f ts → may_hold l f ≡ true → tells l ≡ true → sees (look_of l) ts ≡ true
+pub look_sure : (l : look.Look) (f : First) (ts : Stream) → Begins f ts → may_hold l f ≡ true → settles l ≡ true → sees (look_of l) ts ≡ true
 unfolding sees lookahead_at any_literal
 look_sure Look-m.Ended f ts b m t = front_sure f ts grammar.is_ended b (ended_sure f m)
 look_sure Look-m.Name f ts b m t = name_sure f ts b m

@@ -5,12 +5,12 @@ use Rattle.syn_grammar.specs.Tokens.{Stream, end, leaf, punct, group, ident, lit
 use Rattle.syn_grammar.specs.Take.{sees, lookahead_at, take_token}
 use Rattle.syn_grammar.specs.Table.{at_nameless_fields}
 use Rattle.syn_parse.specs.Peeks.{past}
-use Rattle.syn_recognize.proofs.Facts.{told_first, word_face, and_same}
+use Rattle.syn_recognize.proofs.Facts.{reported_first, word_face, and_same}
 use Rattle.syn_recognize.proofs.Restricted.{no_word}
 
 -- another fact that is stated first
-told_later : (n o : Fact) (c : Look) (l : Asked) (f : Lookahead) → same_fact n o ≡ false → has_fact n (facts_for ((c, o) ∷ l) f) ≡ has_fact n (facts_for l f)
-told_later n o c l f e = go (answers c f)
+known_later : (n o : Fact) (c : Look) (l : Asked) (f : Lookahead) → same_fact n o ≡ false → has_fact n (facts_for ((c, o) ∷ l) f) ≡ has_fact n (facts_for l f)
+known_later n o c l f e = go (answers c f)
   where
     go : (a : Bool) → has_fact n (pick a (o ∷ facts_for l f) (facts_for l f)) ≡ has_fact n (facts_for l f)
     go true = ap (λ b. or b (has_fact n (facts_for l f))) e
@@ -19,7 +19,7 @@ told_later n o c l f e = go (answers c f)
 -- what the grammar states of `union` is whether braces follow it
 noted_brace : (x : Text) (m : Stream) → is_word w_union (leaf_terminal (ident x)) ≡ true → has_fact Before_brace (facts_for (asked (leaf_terminal (ident x))) (lookahead m)) ≡ answers (at_group Brace) (lookahead m)
 noted_brace x m e = subst (λ z. has_fact Before_brace (facts_for (asked (leaf_terminal (ident z))) (lookahead m)) ≡ answers (at_group Brace) (lookahead m)) (sym (word_face w_union x e))
-    (told_later Before_brace Begins_item at_name ((at_group Brace, Before_brace) ∷ asked_by_name) (lookahead m) refl ∙ told_first Before_brace (at_group Brace) asked_by_name (lookahead m) refl refl)
+    (known_later Before_brace Begins_item at_name ((at_group Brace, Before_brace) ∷ asked_by_name) (lookahead m) refl ∙ reported_first Before_brace (at_group Brace) asked_by_name (lookahead m) refl refl)
 
 pub nameless_seen : (ts : Stream) → sees at_nameless_fields ts ≡ or (sees (at_word w_struct) ts) (and (sees (at_word w_union) ts) (sees (at_group Brace) (past ts)))
 unfolding sees lookahead_at take_token

@@ -27,15 +27,15 @@ not_true true n = absurd (n refl)
 not_true false n = refl
 
 -- the grammar's words for numerals say what std's do
-tells_all_digits : IsDigitsTest (λ ds. all_digits ds ≡ true)
-tells_all_digits = record {
+settles_all_digits : IsDigitsTest (λ ds. all_digits ds ≡ true)
+settles_all_digits = record {
   empty = refl;
   parts = λ c cs e. let k = and_left (is_digit c) _ e in ((leb-true 48 c (and_left (nat_le 48 c) _ k), leb-true c 57 (and_right (nat_le 48 c) _ k)), and_right (is_digit c) _ e);
   more = λ c cs k e. both_true (is_digit c) (all_digits cs) (both_true (nat_le 48 c) (nat_le c 57) (le-leb 48 c k.0) (le-leb c 57 k.1)) e;
 }
 
 own : IsNumeralModel (λ ds. all_digits ds ≡ true) (number_after 0)
-own = numerals_by_fold _ tells_all_digits number_after (record { empty = λ n. refl; more = λ n c cs k. refl })
+own = numerals_by_fold _ settles_all_digits number_after (record { empty = λ n. refl; more = λ n c cs k. refl })
 
 -- no zero leads but `0` itself
 leading : (x : Text) → leads_well x ≡ true → get_or x 0 0 ≡ 48 → length x ≡ 1
@@ -64,8 +64,8 @@ number_read {E} (d ∷ l) c r h s plus zeros = go r (parse_plain own 32 (d ∷ l
     lone (inl (e, k)) z = omega (arith, k)
     lone (inr n) z = absurd (n (sym is ∙ z))
 
-    told : is_index (d ∷ l) ≡ true → (all_digits (d ∷ l) ≡ true) × (0 < length (d ∷ l)) × (number_after 0 (d ∷ l) < 2 ^ 32)
-    told i =
+    reported : is_index (d ∷ l) ≡ true → (all_digits (d ∷ l) ≡ true) × (0 < length (d ∷ l)) × (number_after 0 (d ∷ l) < 2 ^ 32)
+    reported i =
         let k = leb-true (number_after 0 (d ∷ l)) 4294967295 (and_right (leads_well (d ∷ l)) _ (and_right (all_digits (d ∷ l)) _ i)) in
         (and_left (all_digits (d ∷ l)) _ i, omega arith, omega (arith, k))
 
@@ -74,7 +74,7 @@ number_read {E} (d ∷ l) c r h s plus zeros = go r (parse_plain own 32 (d ∷ l
       both_true (all_digits (d ∷ l)) _ h (both_true (leads_well (d ∷ l)) _ (leads (d ∷ l) some (lone zeros)) (le-leb (number_after 0 (d ∷ l)) 4294967295 (omega (arith, k)))),
       ap decimal e ∙ decimal-digits_value own (d ∷ l) h some (lone zeros) (omega (arith, k)),
     )
-    go (Err e) n = not_true (is_index (d ∷ l)) (λ i. n (told i))
+    go (Err e) n = not_true (is_index (d ∷ l)) (λ i. n (reported i))
 
 -- no text that begins otherwise is a field's number
 pub no_number : (x : Text) (c : ℕ) → slice_get x 0 ≡ Some c → (c ≡ 43) ⊎ ((c ≡ 48) × (1 < length x)) → is_index x ≡ false
@@ -89,7 +89,7 @@ no_number (d ∷ l) c s h = not_true (is_index (d ∷ l)) (λ i. go i h)
     is = ap some_of s
 
     go : is_index (d ∷ l) ≡ true → (c ≡ 43) ⊎ ((c ≡ 48) × (1 < length (d ∷ l))) → ⊥
-    go i (inl e) = let k = (tells_all_digits.parts d l (and_left (all_digits (d ∷ l)) _ i)).0 in omega (arith, is, e, k)
+    go i (inl e) = let k = (settles_all_digits.parts d l (and_left (all_digits (d ∷ l)) _ i)).0 in omega (arith, is, e, k)
     go i (inr (e, k)) = omega (arith, k, leading (d ∷ l) (and_left (leads_well (d ∷ l)) _ (and_right (all_digits (d ∷ l)) _ i)) (is ∙ e))
 
 -- TOKENS: a literal is the number of a field where it is an integer with such a text

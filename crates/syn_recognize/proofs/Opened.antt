@@ -22,7 +22,7 @@ use Rattle.syn_recognize.specs.Within.{second}
 use Rattle.syn_recognize.specs.Opens.{Opens, both, either_way, pruned}
 use Rattle.syn_recognize.proofs.Copied.{empty_is, unshown_is, rule_is, shaped_is, then_is, when_is}
 use Rattle.syn_recognize.proofs.May.{never, surely}
-use Rattle.syn_recognize.specs.Steps.{GoesOn}
+use Rattle.syn_recognize.specs.Steps.{Proceeds}
 use Rattle.syn_recognize.specs.declared.step.Step.{Step}
 use Rattle.syn_recognize.specs.declared.step.Step.TheVariants as Step-m
 use Rattle.syn_recognize.proofs.Todo.{goes_here, goes_first}
@@ -59,16 +59,16 @@ pruned_is ks (suc n) f g ts b w = refl
 
 -- GOING DOWN A RULE
 
-pub goes_opened : (l : List Step) (f : First) (g : Grammar) (k : Rule) (w : Written) (ts : Stream) → Opens f g k → Begins f ts → GoesOn l (copy_form (rule k) w ts) l g w ts
+pub goes_opened : (l : List Step) (f : First) (g : Grammar) (k : Rule) (w : Written) (ts : Stream) → Opens f g k → Begins f ts → Proceeds l (copy_form (rule k) w ts) l g w ts
 unfolding Opens
 goes_opened l f g k w ts h b = goes_here l (copy_form (rule k) w ts) g w ts (h w ts b)
 
 -- one that is a unary level and so many levels after it, which are deferred
-pub started : (l m : List Step) (f : First) (i k : Rule) (b c j : ℕ) (u : Grammar) (w : Written) (ts : Stream) → Rung i b k j → c ≡ b + j → Opens f u i → Begins f ts → m ≡ l ++ Step-m.Levels b c ∷ [] → GoesOn l (copy_form (rule k) w ts) m u w ts
+pub started : (l m : List Step) (f : First) (i k : Rule) (b c j : ℕ) (u : Grammar) (w : Written) (ts : Stream) → Rung i b k j → c ≡ b + j → Opens f u i → Begins f ts → m ≡ l ++ Step-m.Levels b c ∷ [] → Proceeds l (copy_form (rule k) w ts) m u w ts
 unfolding Opens
 started l m f i k b c j u w ts h q o a p =
     let s : c - b ≡ j = omega (arith, q) in
-    subst (λ (x : List Step). GoesOn l (copy_form (rule k) w ts) x u w ts) (sym p)
+    subst (λ (x : List Step). Proceeds l (copy_form (rule k) w ts) x u w ts) (sym p)
     (goes_first l (Step-m.Levels b c) (copy_form (rule k) w ts) u w ts (climbs i b k j u w ts h (o w ts a) ∙ sym (ap (λ n. next (copy_form u w ts) (climb n b)) s)))
 
 -- WHAT OPERANDS BEGIN WITH

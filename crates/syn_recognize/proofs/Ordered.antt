@@ -11,13 +11,13 @@ use Rattle.syn_grammar.proofs.Begins.{not_here, not_there}
 use Rattle.syn_grammar.proofs.Each.{attributes_is, lifetime_parameter_is}
 use Rattle.syn_grammar.proofs.Looks.{sees_lifetime}
 use Rattle.syn_recognize.specs.Within.{first, second}
-use Rattle.syn_recognize.specs.Ordered.{Tells, LeadsTo}
+use Rattle.syn_recognize.specs.Ordered.{Settles, LeadsTo}
 use Rattle.syn_recognize.specs.declared.list.List.TheVariants as List-m
 
 -- ARGUMENTS
 
-pub arguments_told : (ts : Stream) → Tells List-m.Arguments ts (sees at_lifetime ts)
-arguments_told ts = record { is = go (take_lifetime ts) (sees at_lifetime ts) (sees_lifetime ts) }
+pub arguments_known : (ts : Stream) → Settles List-m.Arguments ts (sees at_lifetime ts)
+arguments_known ts = record { is = go (take_lifetime ts) (sees at_lifetime ts) (sees_lifetime ts) }
   where
     go : (o : Out) (b : Bool) → b ≡ taken o → first_of o (parse_form (rule generic_argument) ts) ≡ branch b o (parse_form (rule generic_argument) ts)
     go (Some p) true e = refl
@@ -33,22 +33,22 @@ lifetime_form = second (table lifetime_parameter)
 abbrev other_rest : Grammar
 other_rest = second parameter
 
-behind : (a : Syntax) (ts : Stream) (b : Bool) → sees at_lifetime ts ≡ b →
+following : (a : Syntax) (ts : Stream) (b : Bool) → sees at_lifetime ts ≡ b →
     first_of (wrap Node (wrap (Both a) (parse_form lifetime_form ts))) (wrap (Both a) (parse_form other_rest ts)) ≡ branch b (wrap Node (wrap (Both a) (parse_form lifetime_form ts))) (wrap (Both a) (parse_form other_rest ts))
-behind a ts true e = ap (λ o. first_of (wrap Node (wrap (Both a) (parse_form lifetime_form ts))) (wrap (Both a) o)) (not_here at_lifetime other_rest refl ts e) ∙ go (parse_form lifetime_form ts)
+following a ts true e = ap (λ o. first_of (wrap Node (wrap (Both a) (parse_form lifetime_form ts))) (wrap (Both a) o)) (not_here at_lifetime other_rest refl ts e) ∙ go (parse_form lifetime_form ts)
   where
     go : (o : Out) → first_of (wrap Node (wrap (Both a) o)) None ≡ wrap Left (wrap Node (wrap (Both a) o))
     go None = refl
     go (Some p) = refl
-behind a ts false e = ap (λ o. first_of (wrap Node (wrap (Both a) o)) (wrap (Both a) (parse_form other_rest ts))) (not_there at_lifetime lifetime_form refl ts e)
+following a ts false e = ap (λ o. first_of (wrap Node (wrap (Both a) o)) (wrap (Both a) (parse_form other_rest ts))) (not_there at_lifetime lifetime_form refl ts e)
 
-pub parameters_told : (ts : Stream) (b : Bool) → LeadsTo (parse_rule attributes ts) b → Tells List-m.Parameters ts b
-parameters_told ts b h = record { is = ap₂ first_of (lifetime_parameter_is ts) refl ∙ go (parse_rule attributes ts) b h ∙ sym (ap (λ o. branch b o (parse_form parameter ts)) (lifetime_parameter_is ts)) }
+pub parameters_known : (ts : Stream) (b : Bool) → LeadsTo (parse_rule attributes ts) b → Settles List-m.Parameters ts b
+parameters_known ts b h = record { is = ap₂ first_of (lifetime_parameter_is ts) refl ∙ go (parse_rule attributes ts) b h ∙ sym (ap (λ o. branch b o (parse_form parameter ts)) (lifetime_parameter_is ts)) }
   where
     go : (o : Out) (b : Bool) → LeadsTo o b → first_of (wrap Node (and_then o (parse_form lifetime_form))) (and_then o (parse_form other_rest)) ≡ branch b (wrap Node (and_then o (parse_form lifetime_form))) (and_then o (parse_form other_rest))
     go None true h = refl
     go None false h = refl
-    go (Some p) b h = behind p.0 p.1 b h
+    go (Some p) b h = following p.0 p.1 b h
 
 -- ATTRIBUTES
 
@@ -71,8 +71,8 @@ begun ts m p e q =
     ∙ ap (λ o. wrap Node (wrap Left (and_then (and_then o (λ r. within Bracket (take_group Bracket r) (parse_rule meta))) (parse_rule attributes)))) q
 
 -- and others after it
-pub attribute_behind : (ts m : Stream) (p : Syntax) (g : Opened) (b : Bool) → sees at_pound ts ≡ true → take_mark pound ts ≡ Some (p, m) → take_group Bracket m ≡ Some g → LeadsTo (parse_rule attributes g.rest) b → LeadsTo (parse_rule attributes ts) b
-attribute_behind ts m p g b e q i h =
+pub attribute_after : (ts m : Stream) (p : Syntax) (g : Opened) (b : Bool) → sees at_pound ts ≡ true → take_mark pound ts ≡ Some (p, m) → take_group Bracket m ≡ Some g → LeadsTo (parse_rule attributes g.rest) b → LeadsTo (parse_rule attributes ts) b
+attribute_after ts m p g b e q i h =
     subst (λ o. LeadsTo o b) (sym (begun ts m p e q ∙ ap (λ o. wrap Node (wrap Left (and_then (wrap (Both p) (within Bracket o (parse_rule meta))) (parse_rule attributes)))) i)) (go (parse_rule meta g.content))
   where
     ended : (s : Syntax) (c : Bool) → LeadsTo (wrap Node (wrap Left (and_then (wrap (Both p) (only c (Some (Group Bracket g.opening g.closing s, g.rest)))) (parse_rule attributes)))) b

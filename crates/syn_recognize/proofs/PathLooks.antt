@@ -15,7 +15,7 @@ use Rattle.syn_parse.specs.FirstTokens.{path_words}
 use Rattle.syn_parse.specs.Peeks.{past}
 use Rattle.syn_parse.proofs.Words.{fits_name, fits_name_or, fits_word}
 use Rattle.syn_recognize.specs.ItemLooks.{at_named_macro}
-use Rattle.syn_recognize.proofs.Facts.{and_same, told_first, word_face}
+use Rattle.syn_recognize.proofs.Facts.{and_same, reported_first, word_face}
 
 -- WHAT A WORD OF A PATH STATES
 
@@ -44,23 +44,23 @@ is_path_word t = or (is_name t) (or (is_word w_self t) (or (is_word w_Self_type 
 
 -- a fact that no contextual keyword states by itself
 module _ (n : Fact) (item : same_fact n Begins_item ≡ false) (brace : same_fact n Before_brace ≡ false) (f : Lookahead) where
-  abbrev told_as_name : Text → Type 0
-  told_as_name x = has_fact n (facts_for (asked (face x)) f) ≡ has_fact n (facts_for asked_by_name f)
+  abbrev known_as_name : Text → Type 0
+  known_as_name x = has_fact n (facts_for (asked (face x)) f) ≡ has_fact n (facts_for asked_by_name f)
 
-  pub told_of_name : (x : Text) → is_name (face x) ≡ true → told_as_name x
-  told_of_name x e = go (one_of_texts x (keywords ++ contextual)) refl
+  pub known_of_name : (x : Text) → is_name (face x) ≡ true → known_as_name x
+  known_of_name x e = go (one_of_texts x (keywords ++ contextual)) refl
     where
-      at : (w : Text) → x ≡ w → told_as_name w → told_as_name x
-      at w p h = subst (λ z. told_as_name z) (sym p) h
+      at : (w : Text) → x ≡ w → known_as_name w → known_as_name x
+      at w p h = subst (λ z. known_as_name z) (sym p) h
 
-      named : (a b c d : Bool) → same_text x w_union ≡ a → same_text x w_auto ≡ b → same_text x w_default ≡ c → same_text x w_safe ≡ d → or a (or b (or c (or d false))) ≡ true → told_as_name x
+      named : (a b c d : Bool) → same_text x w_union ≡ a → same_text x w_auto ≡ b → same_text x w_default ≡ c → same_text x w_safe ≡ d → or a (or b (or c (or d false))) ≡ true → known_as_name x
       named true b c d p q r s h = at w_union (same_text_eq x w_union p) (passed n (asked (Word w_union)) f item ∙ passed n (others (asked (Word w_union))) f brace)
       named false true c d p q r s h = at w_auto (same_text_eq x w_auto q) (passed n (asked (Word w_auto)) f item)
       named false false true d p q r s h = at w_default (same_text_eq x w_default r) (passed n (asked (Word w_default)) f item)
       named false false false true p q r s h = at w_safe (same_text_eq x w_safe s) refl
       named false false false false p q r s h = absurd (true≢false (sym h))
 
-      go : (b : Bool) → one_of_texts x (keywords ++ contextual) ≡ b → told_as_name x
+      go : (b : Bool) → one_of_texts x (keywords ++ contextual) ≡ b → known_as_name x
       go true i = named (same_text x w_union) (same_text x w_auto) (same_text x w_default) (same_text x w_safe) refl refl refl refl (sym (ap (λ b. is_name (pick b (Word x) Name)) i) ∙ e)
       go false i = ap (λ b. has_fact n (facts_for (asked (pick b (Word x) Name)) f)) i
 
@@ -68,21 +68,21 @@ module _ (n : Fact) (item : same_fact n Begins_item ≡ false) (brace : same_fac
 module _ (n : Fact) (item : same_fact n Begins_item ≡ false) (brace : same_fact n Before_brace ≡ false)
     (last : same_fact n Before_end ≡ false) (equal : same_fact n Before_equals ≡ false) (paren : same_fact n Before_paren ≡ false) (lt : same_fact n Before_less ≡ false) (rest : same_fact n Before_type_rest ≡ false)
     (f : Lookahead) where
-  abbrev told_as_word : Text → Type 0
-  told_as_word x = has_fact n (facts_for (asked (face x)) f) ≡ has_fact n (facts_for asked_by_path_word f)
+  abbrev known_as_word : Text → Type 0
+  known_as_word x = has_fact n (facts_for (asked (face x)) f) ≡ has_fact n (facts_for asked_by_path_word f)
 
   as_name : has_fact n (facts_for asked_by_name f) ≡ has_fact n (facts_for asked_by_path_word f)
   as_name = passed n asked_by_name f equal ∙ passed n (others asked_by_name) f paren ∙ passed n (others (others asked_by_name)) f lt ∙ passed n (others (others (others asked_by_name))) f rest
 
-  pub told_of_word : (x : Text) → is_path_word (face x) ≡ true → told_as_word x
-  told_of_word x e = go (is_name (face x)) (is_word w_self (face x)) (is_word w_Self_type (face x)) (is_word w_super (face x)) (is_word w_crate (face x)) refl refl refl refl refl e
+  pub known_of_word : (x : Text) → is_path_word (face x) ≡ true → known_as_word x
+  known_of_word x e = go (is_name (face x)) (is_word w_self (face x)) (is_word w_Self_type (face x)) (is_word w_super (face x)) (is_word w_crate (face x)) refl refl refl refl refl e
     where
-      at : (w : Text) → x ≡ w → told_as_word w → told_as_word x
-      at w p h = subst (λ z. told_as_word z) (sym p) h
+      at : (w : Text) → x ≡ w → known_as_word w → known_as_word x
+      at w p h = subst (λ z. known_as_word z) (sym p) h
 
       go : (a b c d g : Bool) → is_name (face x) ≡ a → is_word w_self (face x) ≡ b → is_word w_Self_type (face x) ≡ c → is_word w_super (face x) ≡ d → is_word w_crate (face x) ≡ g →
-          or a (or b (or c (or d g))) ≡ true → told_as_word x
-      go true b c d g p q r s t h = told_of_name n item brace f x p ∙ as_name
+          or a (or b (or c (or d g))) ≡ true → known_as_word x
+      go true b c d g p q r s t h = known_of_name n item brace f x p ∙ as_name
       go false true c d g p q r s t h = at w_self (word_face w_self x q) (passed n (asked (Word w_self)) f last)
       go false false true d g p q r s t h = at w_Self_type (word_face w_Self_type x r) refl
       go false false false true g p q r s t h = at w_super (word_face w_super x s) (passed n (asked (Word w_super)) f last)
@@ -90,23 +90,23 @@ module _ (n : Fact) (item : same_fact n Begins_item ≡ false) (brace : same_fac
       go false false false false false p q r s t h = absurd (true≢false (sym h))
 
 -- the conditions on what follows it
-abbrev macro_behind : Look
-macro_behind = at_mark exclamation but_not at_mark not_equals or_else at_mark colons and_also ahead Before_macro
+abbrev macro_after : Look
+macro_after = at_mark exclamation but_not at_mark not_equals or_else at_mark colons and_also ahead Before_macro
 
-macro_told : (f : Lookahead) → has_fact Before_macro (facts_for asked_by_path_word f) ≡ answers macro_behind f
-macro_told f = passed Before_macro asked_by_path_word f refl ∙ told_first Before_macro macro_behind (asked_of_path at_path_rest) f refl refl
+macro_known : (f : Lookahead) → has_fact Before_macro (facts_for asked_by_path_word f) ≡ answers macro_after f
+macro_known f = passed Before_macro asked_by_path_word f refl ∙ reported_first Before_macro macro_after (asked_of_path at_path_rest) f refl refl
 
-brace_told : (f : Lookahead) → has_fact Bang_brace (facts_for asked_by_path_word f) ≡ answers (at_path_rest and_also ahead Bang_brace) f
-brace_told f = passed Bang_brace asked_by_path_word f refl ∙ passed Bang_brace (others asked_by_path_word) f refl ∙ told_first Bang_brace (at_path_rest and_also ahead Bang_brace) (others (others (others asked_by_path_word))) f refl refl
+brace_known : (f : Lookahead) → has_fact Bang_brace (facts_for asked_by_path_word f) ≡ answers (at_path_rest and_also ahead Bang_brace) f
+brace_known f = passed Bang_brace asked_by_path_word f refl ∙ passed Bang_brace (others asked_by_path_word) f refl ∙ reported_first Bang_brace (at_path_rest and_also ahead Bang_brace) (others (others (others asked_by_path_word))) f refl refl
 
-name_told : (f : Lookahead) → has_fact Bang_name (facts_for asked_by_path_word f) ≡ answers (at_path_rest and_also ahead Bang_name) f
-name_told f = passed Bang_name asked_by_path_word f refl ∙ passed Bang_name (others asked_by_path_word) f refl ∙ passed Bang_name (others (others asked_by_path_word)) f refl ∙ told_first Bang_name (at_path_rest and_also ahead Bang_name) [] f refl refl
+name_known : (f : Lookahead) → has_fact Bang_name (facts_for asked_by_path_word f) ≡ answers (at_path_rest and_also ahead Bang_name) f
+name_known f = passed Bang_name asked_by_path_word f refl ∙ passed Bang_name (others asked_by_path_word) f refl ∙ passed Bang_name (others (others asked_by_path_word)) f refl ∙ reported_first Bang_name (at_path_rest and_also ahead Bang_name) [] f refl refl
 
-colons_told : (f : Lookahead) → has_fact Before_colons (facts_for asked_by_path_word f) ≡ answers (at_mark colons) f
-colons_told f = told_first Before_colons (at_mark colons) (others asked_by_path_word) f refl refl
+colons_known : (f : Lookahead) → has_fact Before_colons (facts_for asked_by_path_word f) ≡ answers (at_mark colons) f
+colons_known f = reported_first Before_colons (at_mark colons) (others asked_by_path_word) f refl refl
 
-paren_told : (f : Lookahead) → has_fact Before_paren (facts_for asked_by_name f) ≡ answers (at_group Paren) f
-paren_told f = passed Before_paren asked_by_name f refl ∙ told_first Before_paren (at_group Paren) (others (others asked_by_name)) f refl refl
+paren_known : (f : Lookahead) → has_fact Before_paren (facts_for asked_by_name f) ≡ answers (at_group Paren) f
+paren_known f = passed Before_paren asked_by_name f refl ∙ reported_first Before_paren (at_group Paren) (others (others asked_by_name)) f refl refl
 
 -- ON STREAMS
 
@@ -126,58 +126,58 @@ unfolding sees
 no_path_word c j sp m = ap₂ or (no_name c j sp m) (ap₂ or (no_word w_self c j sp m) (ap₂ or (no_word w_Self_type c j sp m) (ap₂ or (no_word w_super c j sp m) (no_word w_crate c j sp m))))
 
 -- after a word of a path
-abbrev pub WordTells : Stream → Stream → Type 0
-WordTells ts m = (sees (ahead Before_macro) ts ≡ or (sees at_bang m) (and (sees at_colons m) (sees (ahead Before_macro) m)))
+abbrev pub WordSettles : Stream → Stream → Type 0
+WordSettles ts m = (sees (ahead Before_macro) ts ≡ or (sees at_bang m) (and (sees at_colons m) (sees (ahead Before_macro) m)))
     × (sees (ahead Bang_brace) ts ≡ and (or (sees at_colons m) (sees at_bang m)) (sees (ahead Bang_brace) m))
     × (sees (ahead Before_colons) ts ≡ sees at_colons m)
     × (sees (ahead Bang_name) ts ≡ and (or (sees at_colons m) (sees at_bang m)) (sees (ahead Bang_name) m))
 
-pub word_tells : (ts : Stream) → sees at_path_word ts ≡ true → WordTells ts (past ts)
+pub word_settles : (ts : Stream) → sees at_path_word ts ≡ true → WordSettles ts (past ts)
 unfolding sees lookahead_at
-word_tells end e = absurd (true≢false (sym e))
-word_tells (leaf (ident x) sp m) e = (
-  told_of_word Before_macro refl refl refl refl refl refl refl (lookahead m) x e ∙ macro_told (lookahead m),
-  told_of_word Bang_brace refl refl refl refl refl refl refl (lookahead m) x e ∙ brace_told (lookahead m),
-  told_of_word Before_colons refl refl refl refl refl refl refl (lookahead m) x e ∙ colons_told (lookahead m),
-  told_of_word Bang_name refl refl refl refl refl refl refl (lookahead m) x e ∙ name_told (lookahead m),
+word_settles end e = absurd (true≢false (sym e))
+word_settles (leaf (ident x) sp m) e = (
+  known_of_word Before_macro refl refl refl refl refl refl refl (lookahead m) x e ∙ macro_known (lookahead m),
+  known_of_word Bang_brace refl refl refl refl refl refl refl (lookahead m) x e ∙ brace_known (lookahead m),
+  known_of_word Before_colons refl refl refl refl refl refl refl (lookahead m) x e ∙ colons_known (lookahead m),
+  known_of_word Bang_name refl refl refl refl refl refl refl (lookahead m) x e ∙ name_known (lookahead m),
 )
-word_tells (leaf (literal k x) sp m) e = absurd (true≢false (sym e))
-word_tells (punct c j sp m) e = absurd (true≢false (sym e ∙ no_path_word c j sp m))
-word_tells (group d o c i m) e = absurd (true≢false (sym e))
+word_settles (leaf (literal k x) sp m) e = absurd (true≢false (sym e))
+word_settles (punct c j sp m) e = absurd (true≢false (sym e ∙ no_path_word c j sp m))
+word_settles (group d o c i m) e = absurd (true≢false (sym e))
 
-paren_tells : (ts : Stream) → sees at_name ts ≡ true → sees (ahead Before_paren) ts ≡ sees at_paren (past ts)
+paren_settles : (ts : Stream) → sees at_name ts ≡ true → sees (ahead Before_paren) ts ≡ sees at_paren (past ts)
 unfolding sees lookahead_at
-paren_tells end e = absurd (true≢false (sym e))
-paren_tells (leaf (ident x) sp m) e = told_of_name Before_paren refl refl (lookahead m) x e ∙ paren_told (lookahead m)
-paren_tells (leaf (literal k x) sp m) e = absurd (true≢false (sym e))
-paren_tells (punct c j sp m) e = absurd (true≢false (sym e ∙ no_name c j sp m))
-paren_tells (group d o c i m) e = absurd (true≢false (sym e))
+paren_settles end e = absurd (true≢false (sym e))
+paren_settles (leaf (ident x) sp m) e = known_of_name Before_paren refl refl (lookahead m) x e ∙ paren_known (lookahead m)
+paren_settles (leaf (literal k x) sp m) e = absurd (true≢false (sym e))
+paren_settles (punct c j sp m) e = absurd (true≢false (sym e ∙ no_name c j sp m))
+paren_settles (group d o c i m) e = absurd (true≢false (sym e))
 
 -- WHAT `::` STATES
 
 -- a fact that `:` states by itself of the tokens after it, and that a third `:` never states
 module _ (n : Fact) (c : Look) (lone : (f : Lookahead) → has_fact n (facts_for (asked (Punctuation (58 ∷ []))) f) ≡ answers c f)
     (nothing : (m : Text) (l : List Fact) → answers c (lookahead_with (Punctuation (58 ∷ m)) l) ≡ false) where
-  abbrev told_of : Lookahead → Type 0
-  told_of f = has_fact n (punctuation_lookahead 58 true (punctuation_lookahead 58 true f)).facts ≡ answers c f
+  abbrev known_of : Lookahead → Type 0
+  known_of f = has_fact n (punctuation_lookahead 58 true (punctuation_lookahead 58 true f)).facts ≡ answers c f
 
-  behind_joint : (t : Terminal) (l : List Fact) → told_of (lookahead_with t l)
-  behind_joint Ended l = lone (lookahead_with Ended l)
-  behind_joint Name l = lone (lookahead_with Name l)
-  behind_joint (Word x) l = lone (lookahead_with (Word x) l)
-  behind_joint (Literal k) l = lone (lookahead_with (Literal k) l)
-  behind_joint (Delimited d v) l = lone (lookahead_with (Delimited d v) l)
-  behind_joint (Punctuation []) l = lone (lookahead_with (Punctuation []) l)
-  behind_joint (Punctuation (d ∷ m)) l = go (nat_eq 58 d) refl
+  after_joint : (t : Terminal) (l : List Fact) → known_of (lookahead_with t l)
+  after_joint Ended l = lone (lookahead_with Ended l)
+  after_joint Name l = lone (lookahead_with Name l)
+  after_joint (Word x) l = lone (lookahead_with (Word x) l)
+  after_joint (Literal k) l = lone (lookahead_with (Literal k) l)
+  after_joint (Delimited d v) l = lone (lookahead_with (Delimited d v) l)
+  after_joint (Punctuation []) l = lone (lookahead_with (Punctuation []) l)
+  after_joint (Punctuation (d ∷ m)) l = go (nat_eq 58 d) refl
     where
-      go : (b : Bool) → nat_eq 58 d ≡ b → told_of (lookahead_with (Punctuation (d ∷ m)) l)
-      go true h = subst (λ z. told_of (lookahead_with (Punctuation (z ∷ m)) l)) (eqb-true 58 d h) (sym (nothing m l))
+      go : (b : Bool) → nat_eq 58 d ≡ b → known_of (lookahead_with (Punctuation (d ∷ m)) l)
+      go true h = subst (λ z. known_of (lookahead_with (Punctuation (z ∷ m)) l)) (eqb-true 58 d h) (sym (nothing m l))
       go false h = rw h (lone (lookahead_with (Punctuation (d ∷ m)) l))
 
-  told_behind : (j : Bool) (sp sq : Span) (m : Stream) → sees (ahead n) (punct 58 true sp (punct 58 j sq m)) ≡ sees c m
+  known_after : (j : Bool) (sp sq : Span) (m : Stream) → sees (ahead n) (punct 58 true sp (punct 58 j sq m)) ≡ sees c m
   unfolding sees lookahead_at
-  told_behind false sp sq m = lone (lookahead m)
-  told_behind true sp sq m = behind_joint (lookahead m).terminal (lookahead m).facts
+  known_after false sp sq m = lone (lookahead m)
+  known_after true sp sq m = after_joint (lookahead m).terminal (lookahead m).facts
 
 -- `::` is next
 abbrev Colons : Stream → Stream → Type 0
@@ -220,14 +220,14 @@ colons_left ts s m e = go (colons_at ts (sees_mark colons refl ts ∙ ap taken e
     go (sp, j, sq, h) = (sp, j, sq, h ∙ ap (λ z. punct 58 true sp (punct 58 j sq z)) (ap rest (subst (λ z. take_mark colons z ≡ Some (s, m)) h e)))
 
 less_lone : (f : Lookahead) → has_fact Before_less (facts_for (asked (Punctuation (58 ∷ []))) f) ≡ answers (at_mark less) f
-less_lone f = told_first Before_less (at_mark less) (others (asked (Punctuation (58 ∷ [])))) f refl refl
+less_lone f = reported_first Before_less (at_mark less) (others (asked (Punctuation (58 ∷ [])))) f refl refl
 
 pub turbofish_seen : (ts : Stream) → sees at_turbofish ts ≡ and (sees at_colons ts) (sees (at_mark less) (past (past ts)))
 unfolding sees
 turbofish_seen ts = and_same (sees at_colons ts) _ _ (λ h. of_colons (colons_at ts h))
   where
     of_colons : Colons ts (past (past ts)) → sees (ahead Before_less) ts ≡ sees (at_mark less) (past (past ts))
-    of_colons (sp, j, sq, e) = ap (sees (ahead Before_less)) e ∙ told_behind Before_less (at_mark less) less_lone (λ m l. refl) j sp sq (past (past ts))
+    of_colons (sp, j, sq, e) = ap (sees (ahead Before_less)) e ∙ known_after Before_less (at_mark less) less_lone (λ m l. refl) j sp sq (past (past ts))
 
 -- words of a path
 or_fifth : (a b c d e : Bool) → e ≡ true → or a (or b (or c (or d e))) ≡ true
@@ -260,15 +260,15 @@ name_is_word ts h = or_first (sees at_name ts) _ h
 
 pub lone_crate_seen : (ts : Stream) → sees at_lone_crate ts ≡ and (sees (at_word w_crate) ts) (no (sees at_colons (past ts)))
 unfolding sees
-lone_crate_seen ts = and_same (sees (at_word w_crate) ts) _ _ (λ h. ap no (word_tells ts (crate_is_word ts h)).2)
+lone_crate_seen ts = and_same (sees (at_word w_crate) ts) _ _ (λ h. ap no (word_settles ts (crate_is_word ts h)).2)
 
 pub pattern_path_seen : (ts : Stream) → sees at_pattern_path ts ≡ or (sees at_colons ts) (or (sees at_less ts) (or (sees (at_word w_Self_type) ts) (or (sees (at_word w_super) ts) (or (sees (at_word w_crate) ts)
     (or (and (sees (at_word w_self) ts) (sees at_colons (past ts))) (and (sees at_name ts) (or (sees at_colons (past ts)) (sees at_paren (past ts)))))))))
 unfolding sees
 pattern_path_seen ts =
     ap₂ (λ x y. or (sees at_colons ts) (or (sees at_less ts) (or (sees (at_word w_Self_type) ts) (or (sees (at_word w_super) ts) (or (sees (at_word w_crate) ts) (or x y))))))
-    (and_same (sees (at_word w_self) ts) _ _ (λ h. (word_tells ts (self_is_word ts h)).2))
-    (and_same (sees at_name ts) _ _ (λ h. ap₂ or (word_tells ts (name_is_word ts h)).2 (paren_tells ts h)))
+    (and_same (sees (at_word w_self) ts) _ _ (λ h. (word_settles ts (self_is_word ts h)).2))
+    (and_same (sees at_name ts) _ _ (λ h. ap₂ or (word_settles ts (name_is_word ts h)).2 (paren_settles ts h)))
 
 -- WHAT `!` STATES
 
@@ -308,31 +308,31 @@ module _ (n : Fact) (c : Look) (lone : (f : Lookahead) → has_fact n (facts_for
   bang_first false sp m h = lone (lookahead m)
   bang_first true sp m h = bang_joint (lookahead m).terminal (lookahead m).facts h
 
-  abbrev BangTells : Bool → Span → Stream → ℕ → Type 0
-  BangTells j sp m z = sees at_bang (punct z j sp m) ≡ true → taken (take_mark exclamation (punct z j sp m)) ≡ true → sees (ahead n) (punct z j sp m) ≡ sees c (past (punct z j sp m))
+  abbrev BangSettles : Bool → Span → Stream → ℕ → Type 0
+  BangSettles j sp m z = sees at_bang (punct z j sp m) ≡ true → taken (take_mark exclamation (punct z j sp m)) ≡ true → sees (ahead n) (punct z j sp m) ≡ sees c (past (punct z j sp m))
 
-  told_by_bang : (ts : Stream) → sees at_bang ts ≡ true → sees (ahead n) ts ≡ sees c (past ts)
+  known_by_bang : (ts : Stream) → sees at_bang ts ≡ true → sees (ahead n) ts ≡ sees c (past ts)
   unfolding take_mark
-  told_by_bang end h = absurd (true≢false (sym (bang_mark end h)))
-  told_by_bang (leaf x sp m) h = absurd (true≢false (sym (bang_mark (leaf x sp m) h)))
-  told_by_bang (group d o i k m) h = absurd (true≢false (sym (bang_mark (group d o i k m) h)))
-  told_by_bang (punct d j sp m) h = go (nat_eq d 33) refl h (bang_mark (punct d j sp m) h)
+  known_by_bang end h = absurd (true≢false (sym (bang_mark end h)))
+  known_by_bang (leaf x sp m) h = absurd (true≢false (sym (bang_mark (leaf x sp m) h)))
+  known_by_bang (group d o i k m) h = absurd (true≢false (sym (bang_mark (group d o i k m) h)))
+  known_by_bang (punct d j sp m) h = go (nat_eq d 33) refl h (bang_mark (punct d j sp m) h)
     where
-      go : (b : Bool) → nat_eq d 33 ≡ b → BangTells j sp m d
-      go true e = subst (BangTells j sp m) (sym (eqb-true d 33 e)) (λ h t. bang_first j sp m h ∙ ap (sees c) (sym (past_bang j sp m)))
+      go : (b : Bool) → nat_eq d 33 ≡ b → BangSettles j sp m d
+      go true e = subst (BangSettles j sp m) (sym (eqb-true d 33 e)) (λ h t. bang_first j sp m h ∙ ap (sees c) (sym (past_bang j sp m)))
       go false e = λ h t. absurd (true≢false (sym t ∙ rw e refl))
 
 brace_lone : (f : Lookahead) → has_fact Bang_brace (facts_for (asked (Punctuation (33 ∷ []))) f) ≡ answers at_brace f
-brace_lone f = told_first Bang_brace at_brace (others (asked (Punctuation (33 ∷ [])))) f refl refl
+brace_lone f = reported_first Bang_brace at_brace (others (asked (Punctuation (33 ∷ [])))) f refl refl
 
 name_lone : (f : Lookahead) → has_fact Bang_name (facts_for (asked (Punctuation (33 ∷ []))) f) ≡ answers at_macro_name f
-name_lone f = passed Bang_name (asked (Punctuation (33 ∷ []))) f refl ∙ told_first Bang_name at_macro_name [] f refl refl
+name_lone f = passed Bang_name (asked (Punctuation (33 ∷ []))) f refl ∙ reported_first Bang_name at_macro_name [] f refl refl
 
-pub bang_tells : (ts : Stream) → sees at_bang ts ≡ true → sees (ahead Bang_brace) ts ≡ sees at_brace (past ts)
-bang_tells = told_by_bang Bang_brace at_brace brace_lone
+pub bang_settles : (ts : Stream) → sees at_bang ts ≡ true → sees (ahead Bang_brace) ts ≡ sees at_brace (past ts)
+bang_settles = known_by_bang Bang_brace at_brace brace_lone
 
-bang_tells_name : (ts : Stream) → sees at_bang ts ≡ true → sees (ahead Bang_name) ts ≡ sees at_macro_name (past ts)
-bang_tells_name = told_by_bang Bang_name at_macro_name name_lone
+bang_settles_name : (ts : Stream) → sees at_bang ts ≡ true → sees (ahead Bang_name) ts ≡ sees at_macro_name (past ts)
+bang_settles_name = known_by_bang Bang_name at_macro_name name_lone
 
 -- `crate`, `!` and braces
 pub crate_macro_seen : (ts : Stream) → sees at_crate_macro ts ≡ and (sees at_lone_crate ts) (and (sees at_bang (past ts)) (sees at_brace (past (past ts))))
@@ -342,7 +342,7 @@ crate_macro_seen ts = and_same (sees at_lone_crate ts) _ _ (λ h. of_lone (sees 
     of_lone : (a b : Bool) → sees (at_word w_crate) ts ≡ a → sees at_colons (past ts) ≡ b → and a (no b) ≡ true → sees (ahead Bang_brace) ts ≡ and (sees at_bang (past ts)) (sees at_brace (past (past ts)))
     of_lone false b p q h = absurd (true≢false (sym h))
     of_lone true true p q h = absurd (true≢false (sym h))
-    of_lone true false p q h = (word_tells ts (crate_is_word ts p)).1 ∙ ap (λ z. and (or z (sees at_bang (past ts))) (sees (ahead Bang_brace) (past ts))) q ∙ and_same (sees at_bang (past ts)) _ _ (bang_tells (past ts))
+    of_lone true false p q h = (word_settles ts (crate_is_word ts p)).1 ∙ ap (λ z. and (or z (sees at_bang (past ts))) (sees (ahead Bang_brace) (past ts))) q ∙ and_same (sees at_bang (past ts)) _ _ (bang_settles (past ts))
 
 -- ALONG A PATH, UP TO ITS `!`
 
@@ -360,26 +360,26 @@ abbrev Goes : Stream → Stream → Type 0
 Goes ts m = (sees (ahead Before_macro) ts ≡ macro_from m) × (sees (ahead Bang_brace) ts ≡ brace_macro_from m) × (sees (ahead Bang_name) ts ≡ named_macro_from m)
 
 -- after `::`
-behind_colons : (ts : Stream) (s : Syntax) (m : Stream) → take_mark colons ts ≡ Some (s, m) → Goes ts m
+after_colons : (ts : Stream) (s : Syntax) (m : Stream) → take_mark colons ts ≡ Some (s, m) → Goes ts m
 unfolding sees
-behind_colons ts s m e = go (colons_left ts s m e)
+after_colons ts s m e = go (colons_left ts s m e)
   where
     macro_in : (f : Lookahead) → has_fact Before_macro (facts_for (asked (Punctuation (58 ∷ []))) f) ≡ answers (at_path_word and_also ahead Before_macro) f
-    macro_in f = passed Before_macro (asked (Punctuation (58 ∷ []))) f refl ∙ told_first Before_macro (at_path_word and_also ahead Before_macro) (others (others (asked (Punctuation (58 ∷ []))))) f refl refl
+    macro_in f = passed Before_macro (asked (Punctuation (58 ∷ []))) f refl ∙ reported_first Before_macro (at_path_word and_also ahead Before_macro) (others (others (asked (Punctuation (58 ∷ []))))) f refl refl
 
     brace_in : (f : Lookahead) → has_fact Bang_brace (facts_for (asked (Punctuation (58 ∷ []))) f) ≡ answers (at_path_word and_also ahead Bang_brace) f
     brace_in f = passed Bang_brace (asked (Punctuation (58 ∷ []))) f refl ∙ passed Bang_brace (others (asked (Punctuation (58 ∷ [])))) f refl
-        ∙ told_first Bang_brace (at_path_word and_also ahead Bang_brace) (others (others (others (asked (Punctuation (58 ∷ [])))))) f refl refl
+        ∙ reported_first Bang_brace (at_path_word and_also ahead Bang_brace) (others (others (others (asked (Punctuation (58 ∷ [])))))) f refl refl
 
     name_in : (f : Lookahead) → has_fact Bang_name (facts_for (asked (Punctuation (58 ∷ []))) f) ≡ answers (at_path_word and_also ahead Bang_name) f
     name_in f = passed Bang_name (asked (Punctuation (58 ∷ []))) f refl ∙ passed Bang_name (others (asked (Punctuation (58 ∷ [])))) f refl ∙ passed Bang_name (others (others (asked (Punctuation (58 ∷ []))))) f refl
-        ∙ told_first Bang_name (at_path_word and_also ahead Bang_name) [] f refl refl
+        ∙ reported_first Bang_name (at_path_word and_also ahead Bang_name) [] f refl refl
 
     go : Colons ts m → Goes ts m
     go (sp, j, sq, h) = (
-      ap (sees (ahead Before_macro)) h ∙ told_behind Before_macro (at_path_word and_also ahead Before_macro) macro_in (λ x l. refl) j sp sq m,
-      ap (sees (ahead Bang_brace)) h ∙ told_behind Bang_brace (at_path_word and_also ahead Bang_brace) brace_in (λ x l. refl) j sp sq m,
-      ap (sees (ahead Bang_name)) h ∙ told_behind Bang_name (at_path_word and_also ahead Bang_name) name_in (λ x l. refl) j sp sq m,
+      ap (sees (ahead Before_macro)) h ∙ known_after Before_macro (at_path_word and_also ahead Before_macro) macro_in (λ x l. refl) j sp sq m,
+      ap (sees (ahead Bang_brace)) h ∙ known_after Bang_brace (at_path_word and_also ahead Bang_brace) brace_in (λ x l. refl) j sp sq m,
+      ap (sees (ahead Bang_name)) h ∙ known_after Bang_name (at_path_word and_also ahead Bang_name) name_in (λ x l. refl) j sp sq m,
     )
 
 -- a word that was taken
@@ -395,24 +395,24 @@ word_left k (punct c j sp r) s m e = absurd (cc e)
 word_left k (group d o c i r) s m e = absurd (cc e)
 
 module _ (k : Kind) (ts : Stream) (s : Syntax) (m : Stream) (word : sees at_path_word ts ≡ true) (e : take_token k ts ≡ Some (s, m)) where
-  tells : WordTells ts m
-  tells = subst (λ z. WordTells ts z) (word_left k ts s m e) (word_tells ts word)
+  settles : WordSettles ts m
+  settles = subst (λ z. WordSettles ts z) (word_left k ts s m e) (word_settles ts word)
 
   macro_is : macro_from ts ≡ or (sees at_bang m) (and (sees at_colons m) (sees (ahead Before_macro) m))
-  macro_is = ap (λ b. and b (sees (ahead Before_macro) ts)) word ∙ tells.0
+  macro_is = ap (λ b. and b (sees (ahead Before_macro) ts)) word ∙ settles.0
 
   brace_is : brace_macro_from ts ≡ and (or (sees at_colons m) (sees at_bang m)) (sees (ahead Bang_brace) m)
-  brace_is = ap (λ b. and b (sees (ahead Bang_brace) ts)) word ∙ tells.1
+  brace_is = ap (λ b. and b (sees (ahead Bang_brace) ts)) word ∙ settles.1
 
   name_is : named_macro_from ts ≡ and (or (sees at_colons m) (sees at_bang m)) (sees (ahead Bang_name) m)
-  name_is = ap (λ b. and b (sees (ahead Bang_name) ts)) word ∙ tells.3
+  name_is = ap (λ b. and b (sees (ahead Bang_name) ts)) word ∙ settles.3
 
   -- `!` follows it
   pub bang_found : sees at_bang m ≡ true → (macro_from ts ≡ true) × (brace_macro_from ts ≡ sees at_brace (past m)) × (named_macro_from ts ≡ sees at_macro_name (past m))
   bang_found h = (
     macro_is ∙ ap (λ b. or b (and (sees at_colons m) (sees (ahead Before_macro) m))) h,
-    brace_is ∙ ap (λ b. and (or (sees at_colons m) b) (sees (ahead Bang_brace) m)) h ∙ or_true (sees at_colons m) (sees (ahead Bang_brace) m) ∙ bang_tells m h,
-    name_is ∙ ap (λ b. and (or (sees at_colons m) b) (sees (ahead Bang_name) m)) h ∙ or_true (sees at_colons m) (sees (ahead Bang_name) m) ∙ bang_tells_name m h,
+    brace_is ∙ ap (λ b. and (or (sees at_colons m) b) (sees (ahead Bang_brace) m)) h ∙ or_true (sees at_colons m) (sees (ahead Bang_brace) m) ∙ bang_settles m h,
+    name_is ∙ ap (λ b. and (or (sees at_colons m) b) (sees (ahead Bang_name) m)) h ∙ or_true (sees at_colons m) (sees (ahead Bang_name) m) ∙ bang_settles_name m h,
   )
     where
       or_true : (b d : Bool) → and (or b true) d ≡ d
@@ -428,12 +428,12 @@ module _ (k : Kind) (ts : Stream) (s : Syntax) (m : Stream) (word : sees at_path
   )
 
   -- `::` does, and a path continues after it
-  pub path_goes_on : sees at_bang m ≡ false → sees at_colons m ≡ true → (t : Syntax) (r : Stream) → take_mark colons m ≡ Some (t, r) →
+  pub path_continues : sees at_bang m ≡ false → sees at_colons m ≡ true → (t : Syntax) (r : Stream) → take_mark colons m ≡ Some (t, r) →
       (macro_from ts ≡ macro_from r) × (brace_macro_from ts ≡ brace_macro_from r) × (named_macro_from ts ≡ named_macro_from r)
-  path_goes_on h c t r d = (
-    macro_is ∙ ap₂ (λ a b. or a (and b (sees (ahead Before_macro) m))) h c ∙ (behind_colons m t r d).0,
-    brace_is ∙ ap₂ (λ a b. and (or b a) (sees (ahead Bang_brace) m)) h c ∙ (behind_colons m t r d).1,
-    name_is ∙ ap₂ (λ a b. and (or b a) (sees (ahead Bang_name) m)) h c ∙ (behind_colons m t r d).2,
+  path_continues h c t r d = (
+    macro_is ∙ ap₂ (λ a b. or a (and b (sees (ahead Before_macro) m))) h c ∙ (after_colons m t r d).0,
+    brace_is ∙ ap₂ (λ a b. and (or b a) (sees (ahead Bang_brace) m)) h c ∙ (after_colons m t r d).1,
+    name_is ∙ ap₂ (λ a b. and (or b a) (sees (ahead Bang_name) m)) h c ∙ (after_colons m t r d).2,
   )
 
 -- where it begins
@@ -456,9 +456,9 @@ path_begins ts s m e = go (sees at_colons ts) refl e
     with_colons : (o : Out) → take_mark colons ts ≡ o → sees at_colons ts ≡ true → wrap Left o ≡ Some (s, m) → Begins ts m
     with_colons (Some p) q h e =
         let at : take_mark colons ts ≡ Some (p.0, m) = q ∙ ap (λ z. Some (p.0, z)) (ap rest e) in (
-          ap (λ b. and (or (sees at_path_word ts) b) (sees (ahead Before_macro) ts)) h ∙ or_true (sees at_path_word ts) _ ∙ (behind_colons ts p.0 m at).0,
-          ap (λ b. and (or (sees at_path_word ts) b) (sees (ahead Bang_brace) ts)) h ∙ or_true (sees at_path_word ts) _ ∙ (behind_colons ts p.0 m at).1,
-          ap (λ b. and (or (sees at_path_word ts) b) (sees (ahead Bang_name) ts)) h ∙ or_true (sees at_path_word ts) _ ∙ (behind_colons ts p.0 m at).2,
+          ap (λ b. and (or (sees at_path_word ts) b) (sees (ahead Before_macro) ts)) h ∙ or_true (sees at_path_word ts) _ ∙ (after_colons ts p.0 m at).0,
+          ap (λ b. and (or (sees at_path_word ts) b) (sees (ahead Bang_brace) ts)) h ∙ or_true (sees at_path_word ts) _ ∙ (after_colons ts p.0 m at).1,
+          ap (λ b. and (or (sees at_path_word ts) b) (sees (ahead Bang_name) ts)) h ∙ or_true (sees at_path_word ts) _ ∙ (after_colons ts p.0 m at).2,
         )
     with_colons None q h e = absurd (cc e)
 

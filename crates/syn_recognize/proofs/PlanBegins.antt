@@ -22,7 +22,7 @@ use Rattle.syn_recognize.specs.Forms.{grammar_of}
 use Rattle.syn_recognize.specs.Written.{Written, adds}
 use Rattle.syn_recognize.specs.Copies.{Copy, Reached, Refused, Stuck, Leads, copied, next, copy_form, capturing}
 use Rattle.syn_recognize.specs.Course.{Course}
-use Rattle.syn_recognize.specs.Courses.{Fair, behind_form, copy_kept, copy_course, copy_way, copy_guess, course_of}
+use Rattle.syn_recognize.specs.Courses.{Fair, after_form, copy_kept, copy_course, copy_way, copy_guess, course_of}
 use Rattle.syn_recognize.specs.Stages.{planned_course, planned_form}
 use Rattle.syn_recognize.specs.Steps.{todo, after}
 use Rattle.syn_recognize.specs.declared.guess.Guess.{Guess}
@@ -38,10 +38,10 @@ use Rattle.syn_recognize.proofs.PlannedCourses.{item_goes, trait_item_goes, impl
 use Rattle.syn_recognize.proofs.StatementCourses.{table_is, statement_written, statement_kept, statements_written, statements_kept}
 
 -- nothing follows it
-nothing_behind : (o : Copy) → next o (copy_form (behind_form Planned-m.Item)) ≡ o
-nothing_behind (Reached v r) = empty_is v r
-nothing_behind Refused = refl
-nothing_behind Stuck = refl
+nothing_after : (o : Copy) → next o (copy_form (after_form Planned-m.Item)) ≡ o
+nothing_after (Reached v r) = empty_is v r
+nothing_after Refused = refl
+nothing_after Stuck = refl
 
 -- A RULE that is read by a plan
 module _ (k j : Rule) (d : Course) (p : Plan) (law : (ts : Stream) → parse_rule k ts ≡ run_plan p j ts ts) (goes : (a : Bool) (m : Stream) → Goes a d p end m) where
@@ -50,9 +50,9 @@ module _ (k j : Rule) (d : Course) (p : Plan) (law : (ts : Stream) → parse_rul
       subst (λ o. Leads o (copy_course d l w ts)) (sym (table_is w ts k ∙ ap (copied w) (law ts)))
       (subst (λ v. Leads (copied w (run_plan p j ts ts)) (copy_course d l v ts)) (adds_none w) (goes_written j ts w d p l end ts fair (goes w.printing ts)))
 
-  by_plan_kept : (w v : Written) (ts : Stream) → Leads (copy_form (table k) w ts) (next (next (copy_kept d v ts) (capturing w ts)) (copy_form (behind_form Planned-m.Item)))
+  by_plan_kept : (w v : Written) (ts : Stream) → Leads (copy_form (table k) w ts) (next (next (copy_kept d v ts) (capturing w ts)) (copy_form (after_form Planned-m.Item)))
   by_plan_kept w v ts =
-      subst (Leads (copy_form (table k) w ts)) (sym (nothing_behind (next (copy_kept d v ts) (capturing w ts))))
+      subst (Leads (copy_form (table k) w ts)) (sym (nothing_after (next (copy_kept d v ts) (capturing w ts))))
       (subst (λ o. Leads o (next (copy_kept d v ts) (capturing w ts))) (sym (table_is w ts k ∙ ap (copied w) (law ts))) (goes_kept j ts w d p end v ts (goes w.printing ts)))
 
 planned_written : (k : Planned) (w : Written) (ts : Stream) (l : Option Bool) → Fair w.printing l → Leads (copy_form (planned_form k) w ts) (copy_course (planned_course k) l w ts)
@@ -68,7 +68,7 @@ planned_written Planned-m.ImplDefinitionRest w ts l fair = by_plan rules.impl_de
 planned_written Planned-m.Statement w ts l fair = statement_written w ts l fair
 planned_written Planned-m.Statements w ts l fair = statements_written w ts l fair
 
-planned_kept : (k : Planned) (w v : Written) (ts : Stream) → Leads (copy_form (planned_form k) w ts) (next (next (copy_kept (planned_course k) v ts) (capturing w ts)) (copy_form (behind_form k)))
+planned_kept : (k : Planned) (w v : Written) (ts : Stream) → Leads (copy_form (planned_form k) w ts) (next (next (copy_kept (planned_course k) v ts) (capturing w ts)) (copy_form (after_form k)))
 planned_kept Planned-m.Item w v ts = by_plan_kept rules.item rules.kept_item (planned_course Planned-m.Item) item_plan item_plan_is item_goes w v ts
 planned_kept Planned-m.TraitItem w v ts = by_plan_kept rules.trait_item rules.kept_trait_item (planned_course Planned-m.TraitItem) trait_item_plan trait_item_plan_is trait_item_goes w v ts
 planned_kept Planned-m.ImplItem w v ts = by_plan_kept rules.impl_item rules.kept_impl_item (planned_course Planned-m.ImplItem) impl_item_plan impl_item_plan_is impl_item_goes w v ts
@@ -78,7 +78,7 @@ planned_kept Planned-m.DeriveInput w v ts = by_plan_kept rules.derive_input rule
 planned_kept Planned-m.UseItemRest w v ts = by_plan_kept rules.use_item_rest rules.kept_item (planned_course Planned-m.UseItemRest) use_alone use_alone_is use_item_rest_goes w v ts
 planned_kept Planned-m.TypeItemRest w v ts = by_plan_kept rules.type_item_rest rules.kept_item (planned_course Planned-m.TypeItemRest) type_alone type_alone_is type_item_rest_goes w v ts
 planned_kept Planned-m.ImplDefinitionRest w v ts = by_plan_kept rules.impl_definition_rest rules.kept_item (planned_course Planned-m.ImplDefinitionRest) impl_alone impl_alone_is impl_definition_rest_goes w v ts
-planned_kept Planned-m.Statement w v ts = subst (Leads (copy_form (table rules.statement) w ts)) (sym (nothing_behind (next (copy_kept (planned_course Planned-m.Statement) v ts) (capturing w ts)))) (statement_kept w ts v)
+planned_kept Planned-m.Statement w v ts = subst (Leads (copy_form (table rules.statement) w ts)) (sym (nothing_after (next (copy_kept (planned_course Planned-m.Statement) v ts) (capturing w ts)))) (statement_kept w ts v)
 planned_kept Planned-m.Statements w v ts = statements_kept w ts v
 
 -- STEPS
@@ -93,7 +93,7 @@ begins old new p k g w ts e c f fair =
     (subst (λ b. Leads (copy_form (planned_form k) w ts) (copy_way b (planned_course k) g.leads w ts)) (sym f) (planned_written k w ts g.leads fair)))))
 
 pub begins_aside : (old new : List Step) (f b i p : _) (k : Planned) (g : Guess) (w v : Written) (ts : Stream) → new ≡ ((old ++ Step-m.Form f ∷ []) ++ Step-m.Capture b i ∷ []) ++ Step-m.Plan p g ∷ [] →
-    grammar_of f.now ≡ behind_form k → b.value ≡ w → i ≡ ts → course_of p.now ≡ planned_course k → g.kept ≡ true → Leads (todo old (copy_form (planned_form k) w ts)) (todo new (Reached v ts))
+    grammar_of f.now ≡ after_form k → b.value ≡ w → i ≡ ts → course_of p.now ≡ planned_course k → g.kept ≡ true → Leads (todo old (copy_form (planned_form k) w ts)) (todo new (Reached v ts))
 begins_aside old new f b i p k g w v ts e q r s c h =
     subst (λ l. Leads (todo old (copy_form (planned_form k) w ts)) (todo l (Reached v ts))) (sym e)
     (subst (Leads (todo old (copy_form (planned_form k) w ts)))

@@ -3,7 +3,7 @@ use Rattle.std.proofs.Common.{◌≡◌, ℕ, ◌+◌, ◌<◌, ◌≤◌, lengt
 use Rattle.std.proofs.lemmas.List.{at_drop_more, drop_all}
 use Rattle.std.specs.Prelude.{nat_eq}
 use Rattle.syn_grammar.specs.Tokens.{Stream, end, leaf, punct, group, Leaf, ident, literal, and, or}
-use Rattle.syn_grammar.specs.ToldByTokens.{roots}
+use Rattle.syn_grammar.specs.DecidedByTokens.{roots}
 use Rattle.syn_tokens.specs.Entries.{encode, leaf_entry, close_entry}
 use Rattle.syn_tokens.specs.declared.stream.entry.Token.{Token as Entry}
 use Rattle.syn_recognize.specs.RootMarks.{colon_entry, begins_entry, roots_in}

@@ -8,13 +8,13 @@ use Rattle.syn_grammar.specs.Forms.{punctuation}
 use Rattle.syn_grammar.specs.Table.{table, at_equals}
 use Rattle.syn_grammar.specs.Take.{Out, sees, before}
 use Rattle.syn_grammar.specs.Run.{branch, parse_form, vanish, wrap}
-use Rattle.syn_grammar.specs.ToldByTokens.{roots}
+use Rattle.syn_grammar.specs.DecidedByTokens.{roots}
 use Rattle.syn_grammar.specs.Plan as plan
 use Rattle.syn_grammar.specs.Plan.{Plan, follow, by_test, run_plan}
 use Rattle.syn_grammar.specs.ItemPlan.{parts}
 use Rattle.syn_grammar.proofs.Run.{parse_rule_is}
 use Rattle.syn_grammar.proofs.Streams.{append_end}
-use Rattle.syn_grammar.proofs.ToldByTokens.{one_where_seen, trees_told}
+use Rattle.syn_grammar.proofs.DecidedByTokens.{one_where_seen, trees_known}
 use Rattle.syn_recognize.specs.Within.{first}
 use Rattle.syn_recognize.specs.PrintedRows.{way}
 use Rattle.syn_recognize.specs.Written.{Written, adds}
@@ -49,7 +49,7 @@ rooted_meets a d e P Q i m x y = record { written = written; all_kept = aside }
         go None q = refl
         go (Some p) q =
             subst (λ v. Leads (copied w (by_test (holds (has root_mark) p.0) (run_plan (P p.0) k b p.1) (run_plan (Q p.0) k b p.1))) (by_roots m (copy_course d l) (copy_course e l) v p.1)) (sym (more p.0))
-            (subst (λ c. Leads (copied w (by_test (holds (has root_mark) p.0) (run_plan (P p.0) k b p.1) (run_plan (Q p.0) k b p.1))) (pick c (copy_course d l (adds w (i ⧺ way w.printing p.0)) p.1) (copy_course e l (adds w (i ⧺ way w.printing p.0)) p.1))) (sym (trees_told m p.1 p.0 q))
+            (subst (λ c. Leads (copied w (by_test (holds (has root_mark) p.0) (run_plan (P p.0) k b p.1) (run_plan (Q p.0) k b p.1))) (pick c (copy_course d l (adds w (i ⧺ way w.printing p.0)) p.1) (copy_course e l (adds w (i ⧺ way w.printing p.0)) p.1))) (sym (trees_known m p.1 p.0 q))
             (choose p.0 p.1 (holds (has root_mark) p.0) refl q))
 
     aside : (k : Rule) (b : Stream) (w : Written) → w.printing ≡ a → (v : Written) → Kept-as k b w (rooted d e) (plan.reads trees_in_braces λ t. plan.tests (has root_mark) t (P t) (Q t)) v m
@@ -64,7 +64,7 @@ rooted_meets a d e P Q i m x y = record { written = written; all_kept = aside }
         go None q = refl
         go (Some p) q =
             let u = adds v (way v.printing p.0) in
-            subst (λ c. Leads (copied w (by_test (holds (has root_mark) p.0) (run_plan (P p.0) k b p.1) (run_plan (Q p.0) k b p.1))) (next (pick c (copy_kept d u p.1) (copy_kept e u p.1)) (capturing w b))) (sym (trees_told m p.1 p.0 q)) (choose p.0 p.1 u (holds (has root_mark) p.0) refl q)
+            subst (λ c. Leads (copied w (by_test (holds (has root_mark) p.0) (run_plan (P p.0) k b p.1) (run_plan (Q p.0) k b p.1))) (next (pick c (copy_kept d u p.1) (copy_kept e u p.1)) (capturing w b))) (sym (trees_known m p.1 p.0 q)) (choose p.0 p.1 u (holds (has root_mark) p.0) refl q)
 
 -- A TYPE ALIAS, from its first where clause on
 

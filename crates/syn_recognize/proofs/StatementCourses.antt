@@ -9,13 +9,13 @@ use Rattle.syn_grammar.specs.Table.{table, at_item, at_pound, at_semicolon}
 use Rattle.syn_grammar.specs.Take.{Out, Parser, sees, before}
 use Rattle.syn_grammar.specs.Run.{and_then, branch, caught, first_of, parse_form, parse_rule, wrap}
 use Rattle.syn_grammar.specs.Plan.{Plan, follow, by_test, run_plan}
-use Rattle.syn_grammar.specs.ItemPlan.{item_behind, item_plan}
+use Rattle.syn_grammar.specs.ItemPlan.{item_after, item_plan}
 use Rattle.syn_grammar.specs.ItemStatements.{item_statement, item_listed}
 use Rattle.syn_grammar.specs.StatementPlans.{other_statement, of_other}
 use Rattle.syn_grammar.proofs.Each.{attributes_is}
 use Rattle.syn_grammar.proofs.Known.{not_true, never_with, never_with_is}
 use Rattle.syn_grammar.proofs.Sets.{or_split, and_left, and_right}
-use Rattle.syn_grammar.proofs.Takes.{sees_stands}
+use Rattle.syn_grammar.proofs.Takes.{sees_present}
 use Rattle.syn_grammar.proofs.PlanSteps.{seen_apart}
 use Rattle.syn_grammar.proofs.Run.{parse_rule_is}
 use Rattle.syn_grammar.proofs.ItemStatements.{item_statements}
@@ -32,7 +32,7 @@ use Rattle.syn_recognize.specs.declared.plan.Planned.TheVariants as Planned-m
 use Rattle.syn_recognize.proofs.Todo.{leads_same}
 use Rattle.syn_recognize.proofs.Ways.{way_both, way_left, way_node, way_right, way_shape}
 use Rattle.syn_recognize.proofs.Writes.{adds_more}
-use Rattle.syn_recognize.proofs.Copied.{behind, empty_is, then_is, wrapped}
+use Rattle.syn_recognize.proofs.Copied.{following, empty_is, then_is, wrapped}
 use Rattle.syn_recognize.proofs.CourseProofs.{Goes, Written-as, Kept-as, goes_written, goes_kept}
 use Rattle.syn_recognize.proofs.PlannedCourses.{item_goes}
 
@@ -44,9 +44,9 @@ inner d = d
 abbrev item_course : Course
 item_course = inner (planned_course Planned-m.Item)
 
-item_behind_goes : (a : Bool) (ts m : Stream) (x : Syntax) → parse_rule attributes ts ≡ Some (x, m) → Goes a item_course (item_behind x) (end ⧺ way a x) m
+item_after_goes : (a : Bool) (ts m : Stream) (x : Syntax) → parse_rule attributes ts ≡ Some (x, m) → Goes a item_course (item_after x) (end ⧺ way a x) m
 unfolding item_plan
-item_behind_goes a ts m x e = (item_goes a ts).1 x m e
+item_after_goes a ts m x e = (item_goes a ts).1 x m e
 
 -- a form with nothing after it
 alone_is : (g : Grammar) (w : Written) (ts : Stream) → copy_form (g & empty) w ts ≡ copy_form g w ts
@@ -69,14 +69,14 @@ in_block_other ts m a e v =
 abbrev listed_of : Out → Out → Parser → Out
 listed_of k o f = wrap Node (wrap Right (wrap core (wrap Right (wrap in_list (first_of (and_then (wrap (shape an_item) k) (parse_rule statements)) (and_then o f))))))
 
-abbrev behind_in_list : Parser
-behind_in_list n = branch (sees at_item n) (wrap (shape an_item) (and_then (parse_rule item_rest n) (parse_rule statements))) (parse_rule statement_rest n)
+abbrev after_in_list : Parser
+after_in_list n = branch (sees at_item n) (wrap (shape an_item) (and_then (parse_rule item_rest n) (parse_rule statements))) (parse_rule statement_rest n)
 
 listed_is : (ts : Stream) (nothing lone : Out) →
-    parse_rule statements ts ≡ wrap Node (branch (sees ended ts) nothing (wrap core (branch (sees at_semicolon ts) lone (wrap in_list (first_of (and_then (wrap (shape an_item) (parse_rule kept_in_block ts)) (parse_rule statements)) (and_then (parse_rule attributes ts) behind_in_list)))))) →
-    sees ended ts ≡ false → sees at_semicolon ts ≡ false → parse_rule statements ts ≡ listed_of (parse_rule kept_in_block ts) (parse_rule attributes ts) behind_in_list
+    parse_rule statements ts ≡ wrap Node (branch (sees ended ts) nothing (wrap core (branch (sees at_semicolon ts) lone (wrap in_list (first_of (and_then (wrap (shape an_item) (parse_rule kept_in_block ts)) (parse_rule statements)) (and_then (parse_rule attributes ts) after_in_list)))))) →
+    sees ended ts ≡ false → sees at_semicolon ts ≡ false → parse_rule statements ts ≡ listed_of (parse_rule kept_in_block ts) (parse_rule attributes ts) after_in_list
 listed_is ts nothing lone e u v =
-    e ∙ ap₂ (λ u v. wrap Node (branch u nothing (wrap core (branch v lone (wrap in_list (first_of (and_then (wrap (shape an_item) (parse_rule kept_in_block ts)) (parse_rule statements)) (and_then (parse_rule attributes ts) behind_in_list))))))) u v
+    e ∙ ap₂ (λ u v. wrap Node (branch u nothing (wrap core (branch v lone (wrap in_list (first_of (and_then (wrap (shape an_item) (parse_rule kept_in_block ts)) (parse_rule statements)) (and_then (parse_rule attributes ts) after_in_list))))))) u v
 
 -- TEXTS
 
@@ -114,21 +114,21 @@ module _ (w : Written) (ts : Stream) where
   table_is k = sym (ap (copied w) (parse_rule_is k ts) ∙ wrapped Node way_node w (parse_form (table k) ts))
 
   abbrev statement_out : Out → Out
-  statement_out o = follow (λ a m. by_test (sees at_item m) (wrap item_statement (run_plan (item_behind a) kept_item ts m)) (wrap (of_other a) (parse_form other_statement m))) o
+  statement_out o = follow (λ a m. by_test (sees at_item m) (wrap item_statement (run_plan (item_after a) kept_item ts m)) (wrap (of_other a) (parse_form other_statement m))) o
 
   other_written : (a : Syntax) (m : Stream) → copied w (wrap (of_other a) (parse_form other_statement m)) ≡ copy_form other_statement (adds w (way w.printing a)) m
   unfolding copy_form
-  other_written a m = behind (way w.printing a) (of_other a) w (other_text w.printing a) (parse_form other_statement m)
+  other_written a m = following (way w.printing a) (of_other a) w (other_text w.printing a) (parse_form other_statement m)
 
   pub statement_written : (l : Option Bool) → Fair w.printing l → Leads (copy_form (table statement) w ts) (copy_course statement_course l w ts)
   unfolding copy_form
   statement_written l fair = subst (λ o. Leads o (copy_course statement_course l w ts)) (sym (table_is statement ∙ ap (copied w) (statement_plan_is ts))) (go (parse_rule attributes ts) refl)
     where
       turn : (a : Syntax) (m : Stream) → parse_rule attributes ts ≡ Some (a, m) → (v : Bool) →
-          Leads (copied w (by_test v (wrap item_statement (run_plan (item_behind a) kept_item ts m)) (wrap (of_other a) (parse_form other_statement m)))) (pick v (copy_course item_course l (adds w (way w.printing a)) m) (copy_course other_course l (adds w (way w.printing a)) m))
+          Leads (copied w (by_test v (wrap item_statement (run_plan (item_after a) kept_item ts m)) (wrap (of_other a) (parse_form other_statement m)))) (pick v (copy_course item_course l (adds w (way w.printing a)) m) (copy_course other_course l (adds w (way w.printing a)) m))
       turn a m e true =
-          subst (λ o. Leads o (copy_course item_course l (adds w (way w.printing a)) m)) (sym (wrapped item_statement item_text w (run_plan (item_behind a) kept_item ts m)))
-          (goes_written kept_item ts w item_course (item_behind a) l (way w.printing a) m fair (item_behind_goes w.printing ts m a e))
+          subst (λ o. Leads o (copy_course item_course l (adds w (way w.printing a)) m)) (sym (wrapped item_statement item_text w (run_plan (item_after a) kept_item ts m)))
+          (goes_written kept_item ts w item_course (item_after a) l (way w.printing a) m fair (item_after_goes w.printing ts m a e))
       turn a m e false = rest_leads other_statement (adds w (way w.printing a)) m l _ (other_written a m)
 
       go : (o : Out) → parse_rule attributes ts ≡ o → Leads (copied w (statement_out o)) (next (copied w o) (copy_course (turns at_item item_course other_course) l))
@@ -140,10 +140,10 @@ module _ (w : Written) (ts : Stream) where
   statement_kept v = subst (λ o. Leads o (next (copy_kept statement_course v ts) (capturing w ts))) (sym (table_is statement ∙ ap (copied w) (statement_plan_is ts))) (go (parse_rule attributes ts) refl)
     where
       turn : (a : Syntax) (m : Stream) → parse_rule attributes ts ≡ Some (a, m) → (c : Bool) → (u : Written) →
-          Leads (copied w (by_test c (wrap item_statement (run_plan (item_behind a) kept_item ts m)) (wrap (of_other a) (parse_form other_statement m)))) (next (pick c (copy_kept item_course u m) (copy_kept other_course u m)) (capturing w ts))
+          Leads (copied w (by_test c (wrap item_statement (run_plan (item_after a) kept_item ts m)) (wrap (of_other a) (parse_form other_statement m)))) (next (pick c (copy_kept item_course u m) (copy_kept other_course u m)) (capturing w ts))
       turn a m e true u =
-          subst (λ o. Leads o (next (copy_kept item_course u m) (capturing w ts))) (sym (wrapped item_statement item_text w (run_plan (item_behind a) kept_item ts m)))
-          (goes_kept kept_item ts w item_course (item_behind a) (way w.printing a) u m (item_behind_goes w.printing ts m a e))
+          subst (λ o. Leads o (next (copy_kept item_course u m) (capturing w ts))) (sym (wrapped item_statement item_text w (run_plan (item_after a) kept_item ts m)))
+          (goes_kept kept_item ts w item_course (item_after a) (way w.printing a) u m (item_after_goes w.printing ts m a e))
       turn a m e false u = tt
 
       go : (o : Out) → parse_rule attributes ts ≡ o → Leads (copied w (statement_out o)) (next (next (copied v o) (copy_kept (turns at_item item_course other_course))) (capturing w ts))
@@ -203,27 +203,27 @@ no_attributes_at ts m a e v = go (sees at_pound ts) refl
     go false q =
         let same : ts ≡ m = ap (λ c. rest_from (wrap Node (branch c (parse_form (first (table attributes)) ts) (Some (Unshown Nothing, ts))))) (sym q) ∙ ap rest_from (sym (attributes_is ts)) ∙ ap rest_from e in
         let h : sees at_item ts ≡ true = ap (sees at_item) same ∙ v in
-        (not_true (sees ended ts) (λ r. true≢false (sym h ∙ seen_apart ended at_item ts refl r)), not_true (sees at_semicolon ts) (λ r. apart_is at_item at_semicolon (lookahead ts) refl (sym (sees_stands at_item ts) ∙ h) (sym (sees_stands at_semicolon ts) ∙ r)))
+        (not_true (sees ended ts) (λ r. true≢false (sym h ∙ seen_apart ended at_item ts refl r)), not_true (sees at_semicolon ts) (λ r. apart_is at_item at_semicolon (lookahead ts) refl (sym (sees_present at_item ts) ∙ h) (sym (sees_present at_semicolon ts) ∙ r)))
 
 module _ (w : Written) (ts : Stream) where
   abbrev list_out : Out
   list_out = first_of (and_then (wrap (shape an_item) (parse_rule kept_in_block ts)) (parse_rule statements)) (and_then (parse_rule attributes ts) (λ n. branch (sees at_item n) (wrap (shape an_item) (and_then (parse_rule item_rest n) (parse_rule statements))) (parse_rule statement_rest n)))
 
   -- where an item is next
-  items_listed : (a : Syntax) (m : Stream) → parse_rule attributes ts ≡ Some (a, m) → sees at_item m ≡ true → copied w list_out ≡ next (copied w (run_plan (item_behind a) kept_item ts m)) (copy_form (rule statements))
+  items_listed : (a : Syntax) (m : Stream) → parse_rule attributes ts ≡ Some (a, m) → sees at_item m ≡ true → copied w list_out ≡ next (copied w (run_plan (item_after a) kept_item ts m)) (copy_form (rule statements))
   unfolding copy_form item_plan
   items_listed a m e v =
       sym (wrapped in_list (way_shape listed) w list_out) ∙ sym (wrapped Right way_right w (wrap in_list list_out)) ∙ sym (wrapped core (way_shape choice) w (wrap Right (wrap in_list list_out)))
       ∙ sym (wrapped Right way_right w (wrap core (wrap Right (wrap in_list list_out)))) ∙ sym (wrapped Node way_node w (wrap Right (wrap core (wrap Right (wrap in_list list_out)))))
       ∙ ap (copied w) (sym (listed_is ts _ _ (parse_rule_is statements ts) off.0 off.1)) ∙ ap (copied w) ((item_statements ts m a e v).1 off.0 off.1) ∙ of (parse_rule item ts)
-      ∙ ap (λ o. next (copied w o) (λ u r. copied u (parse_rule statements r))) (item_plan_is ts ∙ ap (λ o. follow (λ s r. run_plan (item_behind s) kept_item ts r) o) e)
+      ∙ ap (λ o. next (copied w o) (λ u r. copied u (parse_rule statements r))) (item_plan_is ts ∙ ap (λ o. follow (λ s r. run_plan (item_after s) kept_item ts r) o) e)
     where
       off : (sees ended ts ≡ false) × (sees at_semicolon ts ≡ false)
       off = no_attributes_at ts m a e v
 
       each : (p : Syntax × Stream) (o : Out) → copied w (wrap item_listed (wrap (Both p.0) o)) ≡ copied (adds w (way w.printing p.0)) o
       each p None = refl
-      each p (Some q) = behind (way w.printing p.0) (λ s. item_listed (Both p.0 s)) w (listed_text w.printing p.0) (Some q)
+      each p (Some q) = following (way w.printing p.0) (λ s. item_listed (Both p.0 s)) w (listed_text w.printing p.0) (Some q)
 
       of : (o : Out) → copied w (wrap item_listed (and_then o (parse_rule statements))) ≡ next (copied w o) (λ u r. copied u (parse_rule statements r))
       of None = refl
@@ -242,7 +242,7 @@ module _ (w : Written) (ts : Stream) where
 
       of : (o : Out) → copied w (wrap Right (wrap (Both a) (wrap Right o))) ≡ copied (adds w (way w.printing a)) o
       of None = refl
-      of (Some q) = behind (way w.printing a) (λ s. Right (Both a (Right s))) w text (Some q)
+      of (Some q) = following (way w.printing a) (λ s. Right (Both a (Right s))) w text (Some q)
 
   none_read : parse_rule attributes ts ≡ None → copied w list_out ≡ Refused
   none_read e = ap₂ (λ k o. copied w (first_of (and_then (wrap (shape an_item) k) (parse_rule statements)) (and_then o (λ n. branch (sees at_item n) (wrap (shape an_item) (and_then (parse_rule item_rest n) (parse_rule statements))) (parse_rule statement_rest n))))) (in_block_none ts e) e
@@ -261,8 +261,8 @@ module _ (w : Written) (ts : Stream) where
           Leads (copied w list_out) (pick v (copy_course (followed item_course (rule statements)) l (adds w (way w.printing a)) m) (copy_course last_statement l (adds w (way w.printing a)) m))
       turn a m e true v =
           subst (λ o. Leads o (next (copy_course item_course l (adds w (way w.printing a)) m) (copy_form (rule statements)))) (sym (items_listed a m e v))
-          (followed_leads (copied w (run_plan (item_behind a) kept_item ts m)) (copy_course item_course l (adds w (way w.printing a)) m)
-          (goes_written kept_item ts w item_course (item_behind a) l (way w.printing a) m fair (item_behind_goes w.printing ts m a e)))
+          (followed_leads (copied w (run_plan (item_after a) kept_item ts m)) (copy_course item_course l (adds w (way w.printing a)) m)
+          (goes_written kept_item ts w item_course (item_after a) l (way w.printing a) m fair (item_after_goes w.printing ts m a e)))
       turn a m e false v = rest_leads (rule statement_rest) (adds w (way w.printing a)) m l _ (none_listed a m e v)
 
       go : (o : Out) → parse_rule attributes ts ≡ o → Leads (copied w list_out) (next (copied w (parse_rule attributes ts)) (copy_course (turns at_item (followed item_course (rule statements)) last_statement) l))
@@ -277,8 +277,8 @@ module _ (w : Written) (ts : Stream) where
           Leads (copied w list_out) (next (next (pick c (copy_kept (followed item_course (rule statements)) u m) (copy_kept last_statement u m)) (capturing w ts)) (copy_form (rule statements)))
       turn a m e true c u =
           subst (λ o. Leads o (next (next (copy_kept item_course u m) (capturing w ts)) (copy_form (rule statements)))) (sym (items_listed a m e c))
-          (followed_leads (copied w (run_plan (item_behind a) kept_item ts m)) (next (copy_kept item_course u m) (capturing w ts))
-          (goes_kept kept_item ts w item_course (item_behind a) (way w.printing a) u m (item_behind_goes w.printing ts m a e)))
+          (followed_leads (copied w (run_plan (item_after a) kept_item ts m)) (next (copy_kept item_course u m) (capturing w ts))
+          (goes_kept kept_item ts w item_course (item_after a) (way w.printing a) u m (item_after_goes w.printing ts m a e)))
       turn a m e false c u = tt
 
       go : (o : Out) → parse_rule attributes ts ≡ o → Leads (copied w list_out) (next (next (next (copied v (parse_rule attributes ts)) (copy_kept (turns at_item (followed item_course (rule statements)) last_statement))) (capturing w ts)) (copy_form (rule statements)))

@@ -13,14 +13,14 @@ use Rattle.syn_grammar.proofs.Run.{parse_rule_is, parse_rule_less, runs_shrinks,
 use Rattle.syn_grammar.proofs.Sets.{and_left}
 use Rattle.syn_tokens.specs.Spans.{at}
 use Rattle.syn_tokens.specs.declared.span.Span.{Span as Span-t}
-use Rattle.syn_parse.specs.Nexts.{StandsNext}
+use Rattle.syn_parse.specs.Nexts.{IsNext}
 use Rattle.syn_recognize.specs.PrintedRows.{way}
 use Rattle.syn_recognize.specs.Written.{Written, adds}
 use Rattle.syn_recognize.specs.Copies.{Copy, Reached, Refused, Stuck, copied, copy_form, next}
 use Rattle.syn_recognize.specs.Supplied.{Unnamed, supplied_form, typed_form, unnamed}
 use Rattle.syn_recognize.specs.declared.supplied.Nameless.{Nameless}
 use Rattle.syn_recognize.specs.declared.supplied.Nameless.TheVariants as Nameless-m
-use Rattle.syn_recognize.proofs.Copied.{behind, then_is}
+use Rattle.syn_recognize.proofs.Copied.{following, then_is}
 use Rattle.syn_recognize.proofs.PathLooks.{no_name}
 use Rattle.syn_recognize.proofs.Ways.{way_both, way_mark}
 use Rattle.syn_recognize.proofs.Writes.{adds_more}
@@ -60,7 +60,7 @@ module _ (g : Grammar) (n : Fact) (ts : Stream) (sp : Span) (h : sees (at_unname
   -- and what is written of it
   unnamed_written : (w : Written) → copy_form (supplied n (rule pattern) g) w ts ≡ copy_form g (adds w (unnamed sp)) ts
   unfolding copy_form
-  unnamed_written w = ap (copied w) unnamed_is ∙ behind (unnamed sp) (with_name sp) w shown (parse_form g ts)
+  unnamed_written w = ap (copied w) unnamed_is ∙ following (unnamed sp) (with_name sp) w shown (parse_form g ts)
     where
       name_shown : (a : Bool) → way a (lone_underscore sp) ≡ leaf (ident w_underscore) sp end
       name_shown true = refl
@@ -93,9 +93,9 @@ with_its_name k w ts h = named k w ts h ∙ then_is (rule pattern) (mark false c
     go Stuck = refl
 
 -- the span that is written
-pub unnamed_stands : (ts : Stream) (w : Written) (s : Span-t) → sees (at_unnamed Before_less) ts ≡ true → StandsNext ts s → Unnamed w ts (adds (adds w (leaf (ident w_underscore) (at s) end)) (punct 58 false (at s) end))
+pub unnamed_present : (ts : Stream) (w : Written) (s : Span-t) → sees (at_unnamed Before_less) ts ≡ true → IsNext ts s → Unnamed w ts (adds (adds w (leaf (ident w_underscore) (at s) end)) (punct 58 false (at s) end))
 unfolding sees lookahead_at
-unnamed_stands end w s h k = absurd (true≢false (sym h))
-unnamed_stands (leaf x sp r) w s h k = (at s, ap Some (sym k), adds_more w (leaf (ident w_underscore) (at s) end) (punct 58 false (at s) end))
-unnamed_stands (punct c j sp r) w s h k = absurd (true≢false (sym (and_left (sees at_name (punct c j sp r)) _ h) ∙ no_name c j sp r))
-unnamed_stands (group d o c i r) w s h k = absurd (true≢false (sym h))
+unnamed_present end w s h k = absurd (true≢false (sym h))
+unnamed_present (leaf x sp r) w s h k = (at s, ap Some (sym k), adds_more w (leaf (ident w_underscore) (at s) end) (punct 58 false (at s) end))
+unnamed_present (punct c j sp r) w s h k = absurd (true≢false (sym (and_left (sees at_name (punct c j sp r)) _ h) ∙ no_name c j sp r))
+unnamed_present (group d o c i r) w s h k = absurd (true≢false (sym h))

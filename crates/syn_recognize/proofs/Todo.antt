@@ -12,11 +12,11 @@ use Rattle.syn_recognize.specs.PrintedRows.{way}
 use Rattle.syn_recognize.specs.Written.{Written, adds}
 use Rattle.syn_recognize.specs.Trailing.{ends_by}
 use Rattle.syn_recognize.specs.Copies.{Copy, Reached, Refused, Stuck, Leads, copied, next, copy_form, by_braces}
-use Rattle.syn_recognize.specs.Steps.{after, todo, Steps, Guessing, Leading, GoesOn}
+use Rattle.syn_recognize.specs.Steps.{after, todo, Steps, Guessing, Leading, Proceeds}
 use Rattle.syn_recognize.specs.declared.step.Step.{Step}
 use Rattle.syn_recognize.specs.declared.step.Step.TheVariants as Step-m
 use Rattle.syn_recognize.proofs.Ways.{way_such, way_left, way_right, way_node}
-use Rattle.syn_recognize.proofs.Copied.{wrapped, behind, rule_is}
+use Rattle.syn_recognize.proofs.Copied.{wrapped, following, rule_is}
 use Rattle.syn_recognize.proofs.Trailing.{trailing_brace_read}
 
 -- the step on top is done first
@@ -111,7 +111,7 @@ by_braces_is g h w ts = go (parse_rule whole_expression ts) (trailing_brace_read
     v s = adds w (way w.printing s)
 
     followed : (i : Grammar) (s : Syntax) (r : Stream) → copied w (wrap (Both (Such s)) (parse_form i r)) ≡ copied (v s) (parse_form i r)
-    followed i s r = behind (way w.printing s) (Both (Such s)) w (way_such w.printing s) (parse_form i r)
+    followed i s r = following (way w.printing s) (Both (Such s)) w (way_such w.printing s) (parse_form i r)
 
     first : (a : Bool) (s : Syntax) (r : Stream) → ends_brace s ≡ a → copied w (first_of (and_then (such_as trailing_brace (Some (s, r))) (parse_form g)) (and_then (such_as no_trailing_brace (Some (s, r))) (parse_form h)))
         ≡ pick a (copied (v s) (parse_form g r)) (copied (v s) (parse_form h r))
@@ -144,20 +144,20 @@ guessing_leads refusal old out (Err e) new w ts h = λ s. refused old out (h s)
 
 -- GOING DOWN A FORM
 
-pub goes_here : (l : List Step) (o : Copy) (g : Grammar) (w : Written) (ts : Stream) → o ≡ copy_form g w ts → GoesOn l o l g w ts
+pub goes_here : (l : List Step) (o : Copy) (g : Grammar) (w : Written) (ts : Stream) → o ≡ copy_form g w ts → Proceeds l o l g w ts
 goes_here l o g w ts e = record { same = ap (todo l) e }
 
 -- what follows the form is deferred
-pub goes_first : (l : List Step) (s : Step) (o : Copy) (g : Grammar) (w : Written) (ts : Stream) → o ≡ after s (copy_form g w ts) → GoesOn l o (l ++ s ∷ []) g w ts
+pub goes_first : (l : List Step) (s : Step) (o : Copy) (g : Grammar) (w : Written) (ts : Stream) → o ≡ after s (copy_form g w ts) → Proceeds l o (l ++ s ∷ []) g w ts
 goes_first l s o g w ts e = record { same = ap (todo l) e ∙ sym (push l s (copy_form g w ts)) }
 
-pub goes_further : (l m n : List Step) (o : Copy) (g h : Grammar) (w : Written) (ts : Stream) → GoesOn l o m g w ts → GoesOn m (copy_form g w ts) n h w ts → GoesOn l o n h w ts
+pub goes_further : (l m n : List Step) (o : Copy) (g h : Grammar) (w : Written) (ts : Stream) → Proceeds l o m g w ts → Proceeds m (copy_form g w ts) n h w ts → Proceeds l o n h w ts
 goes_further l m n o g h w ts a b = record { same = a.same ∙ b.same }
 
 -- the form is done, and the last deferred step continues
-pub goes_back : (l : List Step) (s : Step) (o : Copy) (g : Grammar) (w : Written) (ts : Stream) → after s o ≡ copy_form g w ts → GoesOn (l ++ s ∷ []) o l g w ts
+pub goes_back : (l : List Step) (s : Step) (o : Copy) (g : Grammar) (w : Written) (ts : Stream) → after s o ≡ copy_form g w ts → Proceeds (l ++ s ∷ []) o l g w ts
 goes_back l s o g w ts e = record { same = push l s o ∙ ap (todo l) e }
 
-pub goes_read : {E : Type 0} (refusal : E → Type 0) (l m n : List Step) (o : Copy) (g : Grammar) (w v : Written) (ts r : Stream) (x : Result (Unit {0}) E) → GoesOn l o m g w ts → Leading refusal m (copy_form g w ts) x n v r → Leading refusal l o x n v r
+pub goes_read : {E : Type 0} (refusal : E → Type 0) (l m n : List Step) (o : Copy) (g : Grammar) (w v : Written) (ts r : Stream) (x : Result (Unit {0}) E) → Proceeds l o m g w ts → Leading refusal m (copy_form g w ts) x n v r → Leading refusal l o x n v r
 goes_read refusal l m n o g w v ts r (Ok x) a h = subst (λ c. Leads c (todo n (Reached v r))) (sym a.same) h
 goes_read refusal l m n o g w v ts r (Err e) a h = λ s. a.same ∙ h s

@@ -15,7 +15,7 @@ use Rattle.syn_tokens.specs.Cursors.{before_next}
 use Rattle.syn_tokens.specs.declared.stream.cursor.TokenTreeRef.{TokenTreeRef}
 use Rattle.syn_tokens.specs.declared.stream.cursor.TokenTreeRef.TheVariants as N
 use Rattle.syn_recognize.specs.Trailing.{ends_by, is_brace_group}
-use Rattle.syn_recognize.proofs.Ends.{ends_append, tells, known_tells, named, brace_is, raw_is}
+use Rattle.syn_recognize.proofs.Ends.{ends_append, settles, known_settles, named, brace_is, raw_is}
 
 -- where nothing was read, no braces were
 vacant_ends : (s : Syntax) → vacant s ≡ true → ends_brace s ≡ false
@@ -47,17 +47,17 @@ mark_ends (x ∷ y ∷ l) ts r h =
     (punct x.0 true x.1 i, h.1 ∙ ap (punct x.0 true x.1) e, λ b. k false)
 
 -- these trees were read, and the last of them is a group in braces where the syntax tree ends with one
-abbrev Told : Syntax → Stream → Stream → Type 0
-Told s ts r = (i : Stream) × (ts ≡ i ⧺ r) × ((b : Bool) → ends_by b i ≡ pick (vacant s) b (ends_brace s))
+abbrev Reported : Syntax → Stream → Stream → Type 0
+Reported s ts r = (i : Stream) × (ts ≡ i ⧺ r) × ((b : Bool) → ends_by b i ≡ pick (vacant s) b (ends_brace s))
 
-told : (g : Grammar) (s : Syntax) (ts r : Stream) → tells g ≡ true → DerivesPrefix table g s ts r → Told s ts r
-told empty Nothing ts r w h = (end, h, λ b. refl)
-told (token f k) (Token x sp) ts r w h = (leaf x sp end, h.1, λ b. refl)
-told (mark f cs) (Mark xs) ts r w h = mark_ends xs ts r h.1
-told lifetime (Lifetime sp x sq) ts r w h = (punct 39 true sp (leaf (ident x) sq end), h, λ b. refl)
-told (g & h) (Both s t) ts r w (m, x, y) =
-    let (i, e, k) = told g s ts m (and_left (tells g) _ w) x in
-    let (j, f, l) = told h t m r (and_right (tells g) _ w) y in (
+reported : (g : Grammar) (s : Syntax) (ts r : Stream) → settles g ≡ true → DerivesPrefix table g s ts r → Reported s ts r
+reported empty Nothing ts r w h = (end, h, λ b. refl)
+reported (token f k) (Token x sp) ts r w h = (leaf x sp end, h.1, λ b. refl)
+reported (mark f cs) (Mark xs) ts r w h = mark_ends xs ts r h.1
+reported lifetime (Lifetime sp x sq) ts r w h = (punct 39 true sp (leaf (ident x) sq end), h, λ b. refl)
+reported (g & h) (Both s t) ts r w (m, x, y) =
+    let (i, e, k) = reported g s ts m (and_left (settles g) _ w) x in
+    let (j, f, l) = reported h t m r (and_right (settles g) _ w) y in (
       i ⧺ j,
       e ∙ ap (λ z. i ⧺ z) f ∙ sym (append_append i j r),
       λ b. ends_append b i j ∙ l (ends_by b i) ∙ ap (λ z. pick (vacant t) z (ends_brace t)) (k b) ∙ go (vacant s) (vacant t) b (ends_brace s) (ends_brace t),
@@ -68,18 +68,18 @@ told (g & h) (Both s t) ts r w (m, x, y) =
     go true false b p q = refl
     go false true b p q = refl
     go false false b p q = refl
-told (when l then g else h) (Left s) ts r w (v, x) = told g s ts r (and_left (tells g) _ w) x
-told (when l then g else h) (Right s) ts r w (v, x) = told h s ts r (and_right (tells g) _ w) x
-told (inside d g) (Group d' o c s) ts r w (e, i, f, x) = (group d' o c i end, f, λ b. brace_is d' o c s)
-told (raw d) (Raw d' o c i) ts r w (e, f) = (group d' o c i end, f, λ b. raw_is d' o c i)
-told (either g h) (Left s) ts r w x = told g s ts r (and_left (tells g) _ w) x
-told (either g h) (Right s) ts r w x = told h s ts r (and_right (tells g) _ w) x
-told (one_of ks) (Case k s) ts r w (v, x) = told (table k) s ts r (known_tells k (named ks k v w)) x
-told (rule k) (Node s) ts r w x = told (table k) s ts r (known_tells k w) x
-told (such q g) (Such s) ts r w (v, x) = told g s ts r w x
-told (shaped j g) (Shaped i s) ts r w (v, x) = told g s ts r w x
-told unshown (Unshown s) ts r w h = (end, h.1, λ b. refl)
-told (ordered g h) (Order xs l ys) ts r w (m, n, a, m', d, o, z) =
+reported (when l then g else h) (Left s) ts r w (v, x) = reported g s ts r (and_left (settles g) _ w) x
+reported (when l then g else h) (Right s) ts r w (v, x) = reported h s ts r (and_right (settles g) _ w) x
+reported (inside d g) (Group d' o c s) ts r w (e, i, f, x) = (group d' o c i end, f, λ b. brace_is d' o c s)
+reported (raw d) (Raw d' o c i) ts r w (e, f) = (group d' o c i end, f, λ b. raw_is d' o c i)
+reported (either g h) (Left s) ts r w x = reported g s ts r (and_left (settles g) _ w) x
+reported (either g h) (Right s) ts r w x = reported h s ts r (and_right (settles g) _ w) x
+reported (one_of ks) (Case k s) ts r w (v, x) = reported (table k) s ts r (known_settles k (named ks k v w)) x
+reported (rule k) (Node s) ts r w x = reported (table k) s ts r (known_settles k w) x
+reported (such q g) (Such s) ts r w (v, x) = reported g s ts r w x
+reported (shaped j g) (Shaped i s) ts r w (v, x) = reported g s ts r w x
+reported unshown (Unshown s) ts r w h = (end, h.1, λ b. refl)
+reported (ordered g h) (Order xs l ys) ts r w (m, n, a, m', d, o, z) =
     let (i, e, k) = mark_ends xs ts m a in
     let c = carried table (row g h) l m m' d in
     let (j, f, q) = mark_ends ys m' r z in (
@@ -87,18 +87,18 @@ told (ordered g h) (Order xs l ys) ts r w (m, n, a, m', d, o, z) =
       e ∙ ap (λ v. i ⧺ v) (c.1 ∙ ap (λ v. c.0 ⧺ v) f ∙ sym (append_append c.0 j r)) ∙ sym (append_append i (c.0 ⧺ j) r),
       λ b. ends_append b i (c.0 ⧺ j) ∙ ends_append (ends_by b i) c.0 j ∙ q (ends_by (ends_by b i) c.0),
     )
-told (vanishing b c g) s ts r w h = absurd (true≢false (sym w))
-told (rest_after cs) s ts r w h = absurd (true≢false (sym w))
-told (captured g) s ts r w h = absurd (true≢false (sym w))
-told (supplied n p t) s ts r w h = absurd (true≢false (sym w))
-told (row g z) s ts r w h = absurd (true≢false (sym w))
-told (generics_before x y z) s ts r w h = absurd (true≢false (sym w))
-told g s ts r w h = elim h [ ]
+reported (vanishing b c g) s ts r w h = absurd (true≢false (sym w))
+reported (rest_after cs) s ts r w h = absurd (true≢false (sym w))
+reported (captured g) s ts r w h = absurd (true≢false (sym w))
+reported (supplied n p t) s ts r w h = absurd (true≢false (sym w))
+reported (row g z) s ts r w h = absurd (true≢false (sym w))
+reported (generics_before x y z) s ts r w h = absurd (true≢false (sym w))
+reported g s ts r w h = elim h [ ]
 
 pub trailing_brace_read : (ts : Stream) (s : Syntax) (r : Stream) → parse_rule whole_expression ts ≡ Some (s, r) → ends_by false (before ts r) ≡ ends_brace s
 trailing_brace_read ts s r e =
     let (t, d, v) = (means whole_expression ts s r).0 e in
-    let (i, f, k) = told (rule whole_expression) t ts r refl d in
+    let (i, f, k) = reported (rule whole_expression) t ts r refl d in
     ap (ends_by false) (before_is ts i r f) ∙ k false ∙ go (vacant t) (ends_brace t) (vacant_ends t) ∙ sym (holds_value trailing_brace t) ∙ ap ends_brace v
   where
     go : (u b : Bool) → (u ≡ true → b ≡ false) → pick u false b ≡ b

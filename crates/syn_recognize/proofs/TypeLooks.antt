@@ -8,7 +8,7 @@ use Rattle.syn_grammar.specs.Table.{at_arguments, at_association, at_colons, at_
 use Rattle.syn_grammar.proofs.Sets.{same_text_eq}
 use Rattle.syn_grammar.proofs.Looks.{sees_and, sees_or, sees_mark, sees_name}
 use Rattle.syn_parse.specs.Peeks.{past}
-use Rattle.syn_recognize.proofs.Facts.{and_same, told_first}
+use Rattle.syn_recognize.proofs.Facts.{and_same, reported_first}
 
 -- what is tested after the first
 abbrev others : Asked → Asked
@@ -17,31 +17,31 @@ others (p ∷ l) = l
 
 -- WHAT FOLLOWS `::`
 
-abbrev told_less : Stream → Stream → Type 0
-told_less ts n = has_fact Before_less (lookahead ts).facts ≡ answers (at_mark less) (lookahead n)
+abbrev known_less : Stream → Stream → Type 0
+known_less ts n = has_fact Before_less (lookahead ts).facts ≡ answers (at_mark less) (lookahead n)
 
-behind_lone : (f : Lookahead) → has_fact Before_less (facts_for (asked (Punctuation (58 ∷ []))) f) ≡ answers (at_mark less) f
-behind_lone f = told_first Before_less (at_mark less) ((at_path_word and_also ahead Before_macro, Before_macro) ∷ asked_of_path at_path_word) f refl refl
+after_lone : (f : Lookahead) → has_fact Before_less (facts_for (asked (Punctuation (58 ∷ []))) f) ≡ answers (at_mark less) f
+after_lone f = reported_first Before_less (at_mark less) ((at_path_word and_also ahead Before_macro, Before_macro) ∷ asked_of_path at_path_word) f refl refl
 
-abbrev told_of : Lookahead → Type 0
-told_of f = has_fact Before_less (punctuation_lookahead 58 true (punctuation_lookahead 58 true f)).facts ≡ answers (at_mark less) f
+abbrev known_of : Lookahead → Type 0
+known_of f = has_fact Before_less (punctuation_lookahead 58 true (punctuation_lookahead 58 true f)).facts ≡ answers (at_mark less) f
 
-behind_joint : (t : Terminal) (l : List Fact) → told_of (lookahead_with t l)
-behind_joint Ended l = behind_lone (lookahead_with Ended l)
-behind_joint Name l = behind_lone (lookahead_with Name l)
-behind_joint (Word x) l = behind_lone (lookahead_with (Word x) l)
-behind_joint (Literal k) l = behind_lone (lookahead_with (Literal k) l)
-behind_joint (Delimited d v) l = behind_lone (lookahead_with (Delimited d v) l)
-behind_joint (Punctuation []) l = behind_lone (lookahead_with (Punctuation []) l)
-behind_joint (Punctuation (c ∷ m)) l = go (nat_eq 58 c) refl
+after_joint : (t : Terminal) (l : List Fact) → known_of (lookahead_with t l)
+after_joint Ended l = after_lone (lookahead_with Ended l)
+after_joint Name l = after_lone (lookahead_with Name l)
+after_joint (Word x) l = after_lone (lookahead_with (Word x) l)
+after_joint (Literal k) l = after_lone (lookahead_with (Literal k) l)
+after_joint (Delimited d v) l = after_lone (lookahead_with (Delimited d v) l)
+after_joint (Punctuation []) l = after_lone (lookahead_with (Punctuation []) l)
+after_joint (Punctuation (c ∷ m)) l = go (nat_eq 58 c) refl
   where
-    go : (b : Bool) → nat_eq 58 c ≡ b → told_of (lookahead_with (Punctuation (c ∷ m)) l)
-    go true h = subst (λ d. told_of (lookahead_with (Punctuation (d ∷ m)) l)) (eqb-true 58 c h) refl
-    go false h = rw h (behind_lone (lookahead_with (Punctuation (c ∷ m)) l))
+    go : (b : Bool) → nat_eq 58 c ≡ b → known_of (lookahead_with (Punctuation (c ∷ m)) l)
+    go true h = subst (λ d. known_of (lookahead_with (Punctuation (d ∷ m)) l)) (eqb-true 58 c h) refl
+    go false h = rw h (after_lone (lookahead_with (Punctuation (c ∷ m)) l))
 
-behind_colons : (j : Bool) (sp sq : Span) (n : Stream) → told_less (punct 58 true sp (punct 58 j sq n)) n
-behind_colons false sp sq n = behind_lone (lookahead n)
-behind_colons true sp sq n = behind_joint (lookahead n).terminal (lookahead n).facts
+after_colons : (j : Bool) (sp sq : Span) (n : Stream) → known_less (punct 58 true sp (punct 58 j sq n)) n
+after_colons false sp sq n = after_lone (lookahead n)
+after_colons true sp sq n = after_joint (lookahead n).terminal (lookahead n).facts
 
 -- `::` is next
 abbrev begins : Stream → Bool
@@ -55,8 +55,8 @@ colons_at ts = taken (take_mark colons ts) ≡ true
 
 second : (sp : Span) (b : Bool) (d : ℕ) (j : Bool) (sq : Span) (n : Stream) → nat_eq d 58 ≡ b → colons_at (punct 58 true sp (punct d j sq n)) → seen_less 58 sp (punct d j sq n)
 unfolding sees lookahead_at take_mark
-second sp true d true sq n e t = subst (λ z. seen_less 58 sp (punct z true sq n)) (sym (eqb-true d 58 e)) (behind_colons true sp sq n)
-second sp true d false sq n e t = subst (λ z. seen_less 58 sp (punct z false sq n)) (sym (eqb-true d 58 e)) (behind_colons false sp sq n)
+second sp true d true sq n e t = subst (λ z. seen_less 58 sp (punct z true sq n)) (sym (eqb-true d 58 e)) (after_colons true sp sq n)
+second sp true d false sq n e t = subst (λ z. seen_less 58 sp (punct z false sq n)) (sym (eqb-true d 58 e)) (after_colons false sp sq n)
 second sp false d j sq n e t = absurd (true≢false (sym t ∙ rw e refl))
 
 at_second : (sp : Span) (n : Stream) → colons_at (punct 58 true sp n) → seen_less 58 sp n
@@ -71,24 +71,24 @@ unfolding take_mark
 at_first c sp true e n t = subst (λ z. colons_at (punct z true sp n) → seen_less z sp n) (sym (eqb-true c 58 e)) (at_second sp n) t
 at_first c sp false e n t = absurd (true≢false (sym t ∙ rw e refl))
 
-behind : (ts : Stream) → begins ts ≡ true → sees (ahead Before_less) ts ≡ sees (at_mark less) (past (past ts))
+following : (ts : Stream) → begins ts ≡ true → sees (ahead Before_less) ts ≡ sees (at_mark less) (past (past ts))
 unfolding take_mark
-behind end h = absurd (true≢false (sym h ∙ sees_mark colons refl end))
-behind (leaf x sp m) h = absurd (true≢false (sym h ∙ sees_mark colons refl (leaf x sp m)))
-behind (group d o c i m) h = absurd (true≢false (sym h ∙ sees_mark colons refl (group d o c i m)))
-behind (punct c false sp m) h = absurd (true≢false (sym h ∙ sees_mark colons refl (punct c false sp m)))
-behind (punct c true sp m) h = at_first c sp (nat_eq c 58) refl m (sym (sees_mark colons refl (punct c true sp m)) ∙ h)
+following end h = absurd (true≢false (sym h ∙ sees_mark colons refl end))
+following (leaf x sp m) h = absurd (true≢false (sym h ∙ sees_mark colons refl (leaf x sp m)))
+following (group d o c i m) h = absurd (true≢false (sym h ∙ sees_mark colons refl (group d o c i m)))
+following (punct c false sp m) h = absurd (true≢false (sym h ∙ sees_mark colons refl (punct c false sp m)))
+following (punct c true sp m) h = at_first c sp (nat_eq c 58) refl m (sym (sees_mark colons refl (punct c true sp m)) ∙ h)
 
 pub arguments_seen : (ts : Stream) → sees at_arguments ts ≡ or (sees at_less_only ts) (or (sees at_paren ts) (and (sees at_colons ts) (sees (at_mark less) (past (past ts)))))
 arguments_seen ts =
     sees_or at_less_only _ ts
     ∙ ap (or (sees at_less_only ts)) (sees_or at_paren _ ts
-    ∙ ap (or (sees at_paren ts)) (sees_and at_colons (ahead Before_less) ts ∙ and_same (begins ts) _ _ (behind ts)))
+    ∙ ap (or (sees at_paren ts)) (sees_and at_colons (ahead Before_less) ts ∙ and_same (begins ts) _ _ (following ts)))
 
 -- WHAT FOLLOWS AN IDENTIFIER
 
-abbrev told_equals : Text → Stream → Type 0
-told_equals x m = has_fact Before_equals (facts_for (asked (leaf_terminal (ident x))) (lookahead m)) ≡ answers (at_mark equals) (lookahead m)
+abbrev known_equals : Text → Stream → Type 0
+known_equals x m = has_fact Before_equals (facts_for (asked (leaf_terminal (ident x))) (lookahead m)) ≡ answers (at_mark equals) (lookahead m)
 
 -- a fact that is stated of another token is skipped
 passed : (n k : Fact) (c : Look) (l : Asked) (f : Lookahead) → same_fact n k ≡ false → has_fact n (facts_for ((c, k) ∷ l) f) ≡ has_fact n (facts_for l f)
@@ -99,22 +99,22 @@ passed n k c l f e = go (answers c f)
     go false = refl
 
 by_name : (f : Lookahead) → has_fact Before_equals (facts_for asked_by_name f) ≡ answers (at_mark equals) f
-by_name f = told_first Before_equals (at_mark equals) (others asked_by_name) f refl refl
+by_name f = reported_first Before_equals (at_mark equals) (others asked_by_name) f refl refl
 
-told : (x : Text) (m : Stream) → is_name (leaf_terminal (ident x)) ≡ true → told_equals x m
-told x m e = go (one_of_texts x (keywords ++ contextual)) refl
+reported : (x : Text) (m : Stream) → is_name (leaf_terminal (ident x)) ≡ true → known_equals x m
+reported x m e = go (one_of_texts x (keywords ++ contextual)) refl
   where
-    at : (w : Text) → x ≡ w → told_equals w m → told_equals x m
-    at w p h = subst (λ z. told_equals z m) (sym p) h
+    at : (w : Text) → x ≡ w → known_equals w m → known_equals x m
+    at w p h = subst (λ z. known_equals z m) (sym p) h
 
-    named : (a b c d : Bool) → same_text x w_union ≡ a → same_text x w_auto ≡ b → same_text x w_default ≡ c → same_text x w_safe ≡ d → or a (or b (or c (or d false))) ≡ true → told_equals x m
+    named : (a b c d : Bool) → same_text x w_union ≡ a → same_text x w_auto ≡ b → same_text x w_default ≡ c → same_text x w_safe ≡ d → or a (or b (or c (or d false))) ≡ true → known_equals x m
     named true b c d p q r s h = at w_union (same_text_eq x w_union p) (passed Before_equals Begins_item at_name ((at_group Brace, Before_brace) ∷ asked_by_name) (lookahead m) refl ∙ passed Before_equals Before_brace (at_group Brace) asked_by_name (lookahead m) refl ∙ by_name (lookahead m))
     named false true c d p q r s h = at w_auto (same_text_eq x w_auto q) (passed Before_equals Begins_item (at_word w_trait) asked_by_name (lookahead m) refl ∙ by_name (lookahead m))
     named false false true d p q r s h = at w_default (same_text_eq x w_default r) (passed Before_equals Begins_item (at_word w_unsafe or_else at_word w_impl) asked_by_name (lookahead m) refl ∙ by_name (lookahead m))
     named false false false true p q r s h = at w_safe (same_text_eq x w_safe s) (by_name (lookahead m))
     named false false false false p q r s h = absurd (true≢false (sym h))
 
-    go : (b : Bool) → one_of_texts x (keywords ++ contextual) ≡ b → told_equals x m
+    go : (b : Bool) → one_of_texts x (keywords ++ contextual) ≡ b → known_equals x m
     go true i = named (same_text x w_union) (same_text x w_auto) (same_text x w_default) (same_text x w_safe) refl refl refl refl (sym (ap (λ b. is_name (pick b (Word x) Name)) i) ∙ e)
     go false i = ap (λ b. has_fact Before_equals (facts_for (asked (pick b (Word x) Name)) (lookahead m))) i ∙ by_name (lookahead m)
 
@@ -125,7 +125,7 @@ no_name c j sp m = sees_name (punct c j sp m)
 pub association_seen : (ts : Stream) → sees at_association ts ≡ and (sees at_name ts) (sees (at_mark equals) (past ts))
 unfolding sees lookahead_at
 association_seen end = refl
-association_seen (leaf (ident x) sp m) = and_same (is_name (leaf_terminal (ident x))) _ _ (told x m)
+association_seen (leaf (ident x) sp m) = and_same (is_name (leaf_terminal (ident x))) _ _ (reported x m)
 association_seen (leaf (literal k x) sp m) = refl
 association_seen (punct c j sp m) = and_same (sees at_name (punct c j sp m)) _ _ (λ h. absurd (true≢false (sym h ∙ no_name c j sp m)))
 association_seen (group d o c i m) = refl

@@ -6,7 +6,7 @@ use Rattle.syn_grammar.specs.Tokens.{Stream, end, punct, Brace, call_site, pick,
 use Rattle.syn_grammar.specs.Rules.{for_self_type, rooted_trees, statements}
 use Rattle.syn_grammar.specs.Grammar.{Grammar, rule, empty, inside, ordered, vanishing, at_row_end, when◌then◌else◌}
 use Rattle.syn_grammar.specs.Take.{Out, before, sees, take_mark}
-use Rattle.syn_grammar.specs.ToldByTokens.{roots}
+use Rattle.syn_grammar.specs.DecidedByTokens.{roots}
 use Rattle.syn_grammar.specs.Leads.{leads_on}
 use Rattle.syn_recognize.specs.Forms.{grammar_of}
 use Rattle.syn_recognize.specs.Names.{look_of}
@@ -132,6 +132,6 @@ abbrev pub copy_guess : Guess → Course → Written → Stream → Copy
 copy_guess g d w ts = copy_way g.kept d g.leads w ts
 
 -- what follows an item that a plan reads
-abbrev pub behind_form : Planned → Grammar
-behind_form Planned-m.Statements = rule statements
-behind_form _ = empty
+abbrev pub after_form : Planned → Grammar
+after_form Planned-m.Statements = rule statements
+after_form _ = empty

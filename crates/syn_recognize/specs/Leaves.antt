@@ -5,7 +5,7 @@ use Rattle.syn_grammar.specs.Words.{Text}
 use Rattle.syn_grammar.specs.Tokens.{Span, Leaf, Stream}
 use Rattle.syn_grammar.specs.Grammar.{Syntax, Token, Lifetime}
 use Rattle.syn_grammar.specs.Take.{take_mark}
-use Rattle.syn_grammar.proofs.Takes.{mark_told}
+use Rattle.syn_grammar.proofs.Takes.{mark_known}
 use Rattle.syn_recognize.specs.Trailing.{IsLeaf}
 
 pub token_is_leaf : (x : Leaf) (sp : Span) → IsLeaf (Token x sp)
@@ -16,5 +16,5 @@ lifetime_is_leaf sp sq x = record { shown = refl }
 
 pub mark_is_leaf : (cs : Text) (ts r : Stream) (s : Syntax) → take_mark cs ts ≡ Some (s, r) → IsLeaf s
 mark_is_leaf cs ts r s e =
-    let (xs, i, q, h) = mark_told cs ts (s, r) e in
+    let (xs, i, q, h) = mark_known cs ts (s, r) e in
     subst IsLeaf (sym i) (record { shown = refl })

@@ -122,10 +122,10 @@ abbrev pub is_one : Text → Bool
 is_one (c ∷ []) = true
 is_one _ = false
 
-abbrev pub tells : look.Look → Bool
-tells Look-m.Ended = true
-tells Look-m.Name = true
-tells Look-m.AnyLiteral = true
-tells (Look-m.Group d) = true
-tells (Look-m.Mark m) = is_one (mark_text m)
-tells _ = false
+abbrev pub settles : look.Look → Bool
+settles Look-m.Ended = true
+settles Look-m.Name = true
+settles Look-m.AnyLiteral = true
+settles (Look-m.Group d) = true
+settles (Look-m.Mark m) = is_one (mark_text m)
+settles _ = false

@@ -177,8 +177,8 @@ variant_of Variant-m.While = shapes.While
 
 abbrev pub shape_of : shape.Shape → Shape
 shape_of Shape-m.ALocal = shapes.a_local
+shape_of (Shape-m.AfterIt v) = shapes.after_it (variant_of v)
 shape_of Shape-m.Based = shapes.based
-shape_of (Shape-m.BehindIt v) = shapes.behind_it (variant_of v)
 shape_of Shape-m.Bracketed = shapes.bracketed
 shape_of Shape-m.Chain = shapes.chain
 shape_of Shape-m.Choice = shapes.choice

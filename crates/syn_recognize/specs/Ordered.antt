@@ -26,7 +26,7 @@ abbrev pub member : list.List → Parser
 member k = union (parse_form (first_form k)) (parse_form (other_form k))
 
 -- it is one that is printed first, or another
-pub record Tells (k : list.List) (ts : Stream) (b : Bool) : Type 0 where
+pub record Settles (k : list.List) (ts : Stream) (b : Bool) : Type 0 where
   pub is : member k ts ≡ branch b (parse_form (first_form k) ts) (parse_form (other_form k) ts)
 
 -- a lifetime follows what was read, or none

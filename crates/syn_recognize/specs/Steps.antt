@@ -54,5 +54,5 @@ Leading refusal old out (Ok x) new w ts = Leads (todo old out) (todo new (Reache
 Leading refusal old out (Err e) new w ts = refusal e → todo old out ≡ Refused
 
 -- the steps deferred before do what this form and the steps deferred after it do
-pub record GoesOn (old : List Step) (out : Copy) (new : List Step) (g : Grammar) (w : Written) (ts : Stream) : Type 0 where
+pub record Proceeds (old : List Step) (out : Copy) (new : List Step) (g : Grammar) (w : Written) (ts : Stream) : Type 0 where
   pub same : todo old out ≡ todo new (copy_form g w ts)

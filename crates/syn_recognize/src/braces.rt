@@ -24,11 +24,11 @@ fn ends_with_braces(trees: &Cursor<'_>, count: usize) -> bool
     let mut rest = trees.fork();
     let mut braces = false;
     'trees: for _tree in 0..count {
-        let Some((tree, behind)) = rest.split() else {
+        let Some((tree, following)) = rest.split() else {
             return braces;
         };
         braces = is_in_braces(&tree);
-        rest = behind;
+        rest = following;
     }
     braces
 }

@@ -5,7 +5,7 @@ ghost use Rattle.syn_grammar.specs.Tokens.{end};
 ghost use Rattle.syn_grammar.specs.Grammar.{rule, show, print, plain_syntax};
 ghost use Rattle.syn_grammar.specs.Run.{parse_rule};
 ghost use Rattle.syn_grammar.specs.Same.{same_syntax};
-ghost use Rattle.syn_grammar.specs.StandsAlone.{stands_alone};
+ghost use Rattle.syn_grammar.specs.IsAlone.{is_alone};
 ghost use Rattle.syn_grammar.specs.Promises.{Computes, Takes, itself};
 ghost use Rattle.syn_parse.specs.Form.{of};
 ghost use Rattle.syn_parse.specs.Refusals.{IsSyntax};
@@ -208,7 +208,7 @@ fn tokens_of<const KIND: usize>(input: &mut ParseBuffer<'_>) -> Parsed<ShownAndP
 
 /// Reads a tree and stores only its tokens. Excludes statements and items in a row: the tokens after them may continue them.
 pub fn read_deferred<const KIND: usize>(input: &mut ParseBuffer<'_>) -> Parsed<Deferred<KIND>>
-    requires { stands_alone (kind_rule KIND) ≡ true }
+    requires { is_alone (kind_rule KIND) ≡ true }
     ensures reads { Computes IsSyntax itself (parse_rule (kind_rule KIND) input.old) result input.new }
     ensures moved { Takes (least (kind_rule KIND)) input.old result input.new }
 {

@@ -28,7 +28,7 @@ impl Fault {
             Fault::Unexpected => input.refusal("unexpected token"),
             Fault::MissingEnd => input.refusal("unexpected token, expected `;`"),
             Fault::MissingSemi => input.refusal("expected semicolon"),
-            Fault::DefaultValue => input.refusal_behind(
+            Fault::DefaultValue => input.refusal_after(
                 "field default value is only supported in structs with named fields",
             ),
             Fault::BreakValue => input.refusal("`break` with a value is not read here"),

@@ -15,7 +15,7 @@ ghost use Rattle.syn_recognize.specs.Strings.{is_string};
 
 use crate::look::at_lone_colon;
 use crate::looks::{
-    at_crate_macro, at_less_only, at_lone_crate, at_macro, at_path_word, behind_path, is_lone_word,
+    after_path, at_crate_macro, at_less_only, at_lone_crate, at_macro, at_path_word, is_lone_word,
 };
 use syn_parse::buffer::ParseBuffer;
 use syn_parse::read::Peek;
@@ -216,7 +216,7 @@ pub fn at_macro_name(input: &ParseBuffer<'_>) -> bool
 fn at_named_macro(input: &ParseBuffer<'_>) -> Parsed<bool>
     ensures { OrMemory IsSyntax result (λ answer. answer ≡ sees items.at_named_macro input.now) }
 {
-    match behind_path(input)? {
+    match after_path(input)? {
         Some(bang) => Ok(bang.peek2::<MacroName>()),
         None => Ok(false),
     }
@@ -382,12 +382,12 @@ pub fn is_before_macro(input: &ParseBuffer<'_>) -> Parsed<bool>
     if !at_lone_colon(input) {
         return at_macro(input);
     }
-    let mut behind = input.fork();
-    let _colon: Colon = behind.read()?;
-    if !at_path_word(&behind) {
+    let mut following = input.fork();
+    let _colon: Colon = following.read()?;
+    if !at_path_word(&following) {
         return Ok(false);
     }
-    at_macro(&behind)
+    at_macro(&following)
 }
 
 /// Whether the next token is a group in parentheses that begins with `in`.

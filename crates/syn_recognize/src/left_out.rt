@@ -20,7 +20,7 @@ pub enum Place {
     /// After the dot of a member.
     Member,
     /// After a whole expression, type or pattern.
-    Behind,
+    Following,
 }
 
 impl Place {
@@ -31,7 +31,7 @@ impl Place {
             Place::Type => type_or_bound(input),
             Place::Pattern => pattern(input),
             Place::Member => member(input),
-            Place::Behind => behind(input),
+            Place::Following => following(input),
         }
     }
 }
@@ -130,7 +130,7 @@ fn member(input: &ParseBuffer<'_>) -> Option<&'static str> {
 }
 
 /// A continuation of an expression, a type or a pattern that is left out.
-fn behind(input: &ParseBuffer<'_>) -> Option<&'static str> {
+fn following(input: &ParseBuffer<'_>) -> Option<&'static str> {
     if input.peek::<DotDot>() {
         Some("ranges are not read here")
     } else if input.peek::<At>() {

@@ -67,7 +67,7 @@ pub(crate) fn head_height_of(rule: Rule) -> Option<usize>
 
 /// The form that this level reads after an operand.
 #[tactic(auto, unfolding(crate::specs::Names::rule_of, crate::specs::Ladder::level_form))]
-pub(crate) fn behind(level: usize) -> Option<&'static Form>
+pub(crate) fn following(level: usize) -> Option<&'static Form>
     ensures { MatchOption result (Unit {0}) (λ form. parse_form (grammar_of form.now) ≡ parse_form (level_form level)) }
 {
     match level {

@@ -5,7 +5,7 @@ ghost use Rattle.syn_grammar.specs.Rules.{attributes};
 ghost use Rattle.syn_grammar.specs.Promises.{OrMemory};
 ghost use Rattle.syn_parse.specs.Refusals.{IsSyntax};
 ghost use Rattle.syn_recognize.specs.Forms.{grammar_of};
-ghost use Rattle.syn_recognize.specs.Ordered.{first_form, other_form, Tells, LeadsTo};
+ghost use Rattle.syn_recognize.specs.Ordered.{first_form, other_form, Settles, LeadsTo};
 
 use crate::form::Form;
 use crate::rules::{Part, Rule};
@@ -54,9 +54,9 @@ pub(crate) fn other_of(list: List) -> &'static Form
 }
 
 /// Whether the next member is one that is printed first. Refused only where memory is.
-#[tactic(auto, using(crate::proofs::Ordered::arguments_told, crate::proofs::Ordered::parameters_told))]
+#[tactic(auto, using(crate::proofs::Ordered::arguments_known, crate::proofs::Ordered::parameters_known))]
 pub(crate) fn at_first(list: List, input: &ParseBuffer<'_>) -> Parsed<bool>
-    ensures { OrMemory IsSyntax result (λ answer. Tells list input.now answer) }
+    ensures { OrMemory IsSyntax result (λ answer. Settles list input.now answer) }
 {
     match list {
         List::Arguments => Ok(input.peek::<Lifetime>()),

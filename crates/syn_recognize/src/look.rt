@@ -380,8 +380,8 @@ fn may_end_predicate(next: First) -> bool
 }
 
 /// Whether the next token alone decides this lookahead.
-fn tells(look: &Look) -> bool
-    ensures { result ≡ may.tells look.now }
+fn settles(look: &Look) -> bool
+    ensures { result ≡ may.settles look.now }
 {
     match look {
         Look::Ended => true,
@@ -437,7 +437,7 @@ pub(crate) fn holds_next(look: &Look, next: First, input: &ParseBuffer<'_>) -> P
     if !may_hold(look, next) {
         return Ok(false);
     }
-    if tells(look) {
+    if settles(look) {
         return Ok(true);
     }
     holds(look, input)

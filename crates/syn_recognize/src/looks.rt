@@ -191,7 +191,7 @@ pub fn at_pattern_path(input: &ParseBuffer<'_>) -> bool
 pub fn at_macro(input: &ParseBuffer<'_>) -> Parsed<bool>
     ensures { OrMemory IsSyntax result (λ answer. answer ≡ sees table.at_macro input.now) }
 {
-    match behind_path(input)? {
+    match after_path(input)? {
         Some(_) => Ok(true),
         None => Ok(false),
     }
@@ -201,7 +201,7 @@ pub fn at_macro(input: &ParseBuffer<'_>) -> Parsed<bool>
 pub fn at_brace_macro(input: &ParseBuffer<'_>) -> Parsed<bool>
     ensures { OrMemory IsSyntax result (λ answer. answer ≡ sees table.at_brace_macro input.now) }
 {
-    match behind_path(input)? {
+    match after_path(input)? {
         Some(bang) => Ok(bang.peek2::<Brace>()),
         None => Ok(false),
     }
@@ -216,7 +216,7 @@ pub fn at_crate_macro(input: &ParseBuffer<'_>) -> bool
 }
 
 /// If a macro is next, the tokens after its path, from its `!` on.
-pub(crate) fn behind_path<'a>(input: &ParseBuffer<'a>) -> Parsed<Option<ParseBuffer<'a>>>
+pub(crate) fn after_path<'a>(input: &ParseBuffer<'a>) -> Parsed<Option<ParseBuffer<'a>>>
     ensures { OrMemory IsSyntax result (λ found. MatchOption found
         ((sees table.at_macro input.now ≡ false) × (sees table.at_brace_macro input.now ≡ false) × (sees at_named_macro input.now ≡ false))
         (λ bang. (sees table.at_macro input.now ≡ true) × (sees table.at_brace_macro input.now ≡ sees table.at_brace (past bang)) × (sees at_named_macro input.now ≡ sees table.at_macro_name (past bang)))) }

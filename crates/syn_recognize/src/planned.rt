@@ -9,7 +9,7 @@ ghost use Rattle.syn_parse.specs.Refusals.{IsSyntax};
 ghost use Rattle.syn_parse.specs.declared.read.refusal.Refusal.TheVariants.{Memory};
 ghost use Rattle.syn_recognize.specs.Forms.{grammar_of};
 ghost use Rattle.syn_recognize.specs.Stages.{planned_form};
-ghost use Rattle.syn_recognize.specs.Courses.{behind_form, course_of, copy_guess, copy_course, led_by, by_roots, shown_generics, impl_parameters, guessed_generics, guessed_lists, no_parameters};
+ghost use Rattle.syn_recognize.specs.Courses.{after_form, course_of, copy_guess, copy_course, led_by, by_roots, shown_generics, impl_parameters, guessed_generics, guessed_lists, no_parameters};
 ghost use Rattle.syn_recognize.specs.Copies.{Copy, copy_form, next};
 ghost use Rattle.syn_recognize.specs.Names.{look_of};
 ghost use Rattle.syn_recognize.specs.Course.{reads, turns, rooted, followed, rest, kept, lists, led, self_type};
@@ -71,7 +71,7 @@ fn read_aside<'a>(
 ) -> Parsed<()>
     ensures { Guessing IsSyntax steps.old.items (copy_form (planned_form planned) out.old input.now) result steps.new.items out.new input.now }
 {
-    steps.push(Step::Form(behind(planned)))?;
+    steps.push(Step::Form(following(planned)))?;
     let before = out.drop_aside()?;
     steps.push(Step::Capture(before, input.fork()))?;
     steps.push(Step::Plan(begin_of(planned), Guess::kept()))?;
@@ -80,8 +80,8 @@ fn read_aside<'a>(
 
 /// The form after an item that a plan reads.
 #[tactic(auto, unfolding(crate::specs::Names::rule_of))]
-fn behind(planned: Planned) -> &'static Form
-    ensures { grammar_of result.now ≡ behind_form planned }
+fn following(planned: Planned) -> &'static Form
+    ensures { grammar_of result.now ≡ after_form planned }
 {
     match planned {
         Planned::Statements => &STATEMENTS,
@@ -310,7 +310,7 @@ fn read_lists<'a>(
 }
 
 /// The same, where they are shown.
-#[tactic(auto, using(crate::proofs::Todo::push, crate::proofs::Guessed::generics_stand, crate::proofs::Guessed::generics_lack))]
+#[tactic(auto, using(crate::proofs::Todo::push, crate::proofs::Guessed::generics_present, crate::proofs::Guessed::generics_lack))]
 fn show_lists<'a>(
     plan: &'static Plan,
     guess: Guess,

@@ -11,7 +11,7 @@ use syn_tokens::delimiter::Delimiter;
 
 /// The refusal of the form that is next, from the refusal of what reads it. At the end of the input, and at a Rust form that is left out,
 /// the message says so; otherwise the refusal is unchanged.
-pub(crate) fn told(refusal: Refusal, form: &Form, input: &ParseBuffer<'_>) -> Refusal
+pub(crate) fn reported(refusal: Refusal, form: &Form, input: &ParseBuffer<'_>) -> Refusal
     ensures { IsSyntax result → IsSyntax refusal }
 {
     match refusal {
@@ -27,7 +27,7 @@ pub(crate) fn told(refusal: Refusal, form: &Form, input: &ParseBuffer<'_>) -> Re
 pub(crate) fn left_over(input: &ParseBuffer<'_>) -> Refusal
     ensures { IsSyntax result }
 {
-    match Place::Behind.left_out(input) {
+    match Place::Following.left_out(input) {
         Some(text) => input.refusal(text),
         None => input.refusal("unexpected token"),
     }
@@ -51,7 +51,7 @@ fn left_out(form: &Form, input: &ParseBuffer<'_>) -> Option<&'static str> {
     match form {
         Form::TokenAt(_, place) => place.left_out(input),
         Form::MarkAt(_, place) => place.left_out(input),
-        Form::Inside(Delimiter::Brace, _) => Place::Behind.left_out(input),
+        Form::Inside(Delimiter::Brace, _) => Place::Following.left_out(input),
         _ => None,
     }
 }

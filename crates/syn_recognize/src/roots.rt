@@ -4,7 +4,7 @@ ghost use Rattle.syn_grammar.specs.Promises.{OrMemory};
 ghost use Rattle.syn_grammar.specs.Take.{before};
 ghost use Rattle.syn_parse.specs.Refusals.{IsSyntax};
 ghost use Rattle.syn_recognize.specs.RootMarks.{colon_entry, begins_entry};
-ghost use Rattle.syn_grammar.specs.ToldByTokens.{roots};
+ghost use Rattle.syn_grammar.specs.DecidedByTokens.{roots};
 
 use syn_parse::buffer::ParseBuffer;
 use syn_parse::read::refusal::{Parsed, Refusal};

@@ -9,7 +9,7 @@ ghost use Rattle.syn_tokens.specs.Spans.{at};
 ghost use Rattle.syn_tokens.specs.Kinds.{comma_syntax};
 ghost use Rattle.syn_parse.specs.Refusals.{IsSyntax};
 ghost use Rattle.syn_recognize.specs.Late.{guess_of};
-ghost use Rattle.syn_recognize.specs.Ordered.{first_form, other_form, Tells};
+ghost use Rattle.syn_recognize.specs.Ordered.{first_form, other_form, Settles};
 ghost use Rattle.syn_recognize.specs.PrintedRows.{print_firsts};
 ghost use Rattle.syn_recognize.specs.Written.{adds};
 ghost use Rattle.syn_recognize.specs.Copies.{next, copy_form, copy_row, after_member, copy_others, after_other, after_late, returning};
@@ -28,7 +28,7 @@ use syn_parse::read::refusal::{Parsed, Refusal};
 use syn_tokens::span::Span;
 use syn_tokens::token::{Comma, Gt};
 
-static GREATER: Form = Form::MarkAt(Mark::Gt, Place::Behind);
+static GREATER: Form = Form::MarkAt(Mark::Gt, Place::Following);
 
 /// Reads a list in `< >`.
 #[tactic(auto, using(crate::proofs::Todo::push, crate::proofs::Copied::ordered_is), unfolding(crate::specs::Copies::copy_form))]
@@ -179,7 +179,7 @@ fn read_guessed<'a>(
 ) -> Parsed<()>
     requires printing { out.old.printing ≡ true }
     requires member { sees at_row_end input.now ≡ false }
-    requires other { Tells list input.now false }
+    requires other { Settles list input.now false }
     ensures { Guessing IsSyntax steps.old.items (copy_row list out.old input.now) result steps.new.items out.new input.now }
 {
     let noted = out.noted();
@@ -247,7 +247,7 @@ fn read_late<'a>(
     input: &ParseBuffer<'a>,
 ) -> Parsed<()>
     requires member { sees at_row_end input.now ≡ false }
-    requires first { Tells list input.now true }
+    requires first { Settles list input.now true }
     ensures { Guessing IsSyntax steps.old.items (copy_others list late out.old input.now) result steps.new.items out.new input.now }
 {
     let before = out.print_aside()?;

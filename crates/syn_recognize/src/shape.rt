@@ -6,8 +6,8 @@
 #[derive(Clone, Copy)]
 pub enum Shape {
     ALocal,
+    AfterIt(Variant),
     Based,
-    BehindIt(Variant),
     Bracketed,
     Chain,
     Choice,

@@ -18,18 +18,18 @@ ghost use Rattle.syn_recognize.specs.Written.{adds};
 ghost use Rattle.syn_parse.specs.Firsts.{Begins};
 ghost use Rattle.syn_recognize.specs.Ladder.{climb};
 ghost use Rattle.syn_recognize.specs.declared.step.Step.TheVariants.{Levels};
-ghost use Rattle.syn_recognize.specs.Steps.{Steps, Guessing, GoesOn, Leading, Runs, after};
+ghost use Rattle.syn_recognize.specs.Steps.{Steps, Guessing, Proceeds, Leading, Runs, after};
 
 use crate::aside::{capture, forget, read_captured, read_hidden};
 use crate::braces::has_trailing_brace;
 use crate::fading::{read_fading, read_generics};
 use crate::fault::Fault;
 use crate::form::Form;
-use crate::levels::{behind, first_level, head_height_of, height_of};
+use crate::levels::{first_level, following, head_height_of, height_of};
 use crate::look::{Look, holds_next};
 use crate::operands::{head_operand, opened, operand};
 use crate::planned::{choose_by_roots, read_plan, read_planned};
-use crate::refused::{left_over, told};
+use crate::refused::{left_over, reported};
 use crate::rows::{
     note, read_ordered, read_others, read_others_rest, read_row, read_row_rest, skip_late,
 };
@@ -128,7 +128,7 @@ fn read_level<'a>(
     requires { level < to }
     ensures { Leading IsSyntax steps.old.items (climb (to - level) level out.old input.old) result steps.new.items out.new input.new }
 {
-    let Some(form) = behind(level) else {
+    let Some(form) = following(level) else {
         return Err(Refusal::Memory(None));
     };
     steps.push(Step::Levels(level + 1, to))?;
@@ -148,7 +148,7 @@ fn read_form<'a>(
     let first = descend(form, steps, out, input)?;
     match read_begun(first, steps, out, input) {
         Ok(()) => Ok(()),
-        Err(refusal) => Err(told(refusal, first, input)),
+        Err(refusal) => Err(reported(refusal, first, input)),
     }
 }
 
@@ -160,7 +160,7 @@ fn descend<'a>(
     out: &Writer,
     input: &ParseBuffer<'a>,
 ) -> Parsed<&'static Form>
-    ensures { OrMemory IsSyntax result (λ first. GoesOn steps.old.items (copy_form (grammar_of form.now) out.now input.now) steps.new.items (grammar_of first.now) out.now input.now) }
+    ensures { OrMemory IsSyntax result (λ first. Proceeds steps.old.items (copy_form (grammar_of form.now) out.now input.now) steps.new.items (grammar_of first.now) out.now input.now) }
 {
     let next = input.first();
     let mut form = form;
@@ -186,7 +186,7 @@ fn resumed<'a>(
     input: &ParseBuffer<'a>,
 ) -> Parsed<Option<&'static Form>>
     requires { Begins next input.now }
-    ensures { OrMemory IsSyntax result (λ found. MatchOption found (steps.new.items ≡ steps.old.items) (λ first. GoesOn steps.old.items (copy_form (grammar_of form.now) out.now input.now) steps.new.items (grammar_of first.now) out.now input.now)) }
+    ensures { OrMemory IsSyntax result (λ found. MatchOption found (steps.new.items ≡ steps.old.items) (λ first. Proceeds steps.old.items (copy_form (grammar_of form.now) out.now input.now) steps.new.items (grammar_of first.now) out.now input.now)) }
 {
     match form {
         Form::Empty => next_form(next, steps, out, input),
@@ -204,7 +204,7 @@ fn next_form<'a>(
     input: &ParseBuffer<'a>,
 ) -> Parsed<Option<&'static Form>>
     requires { Begins next input.now }
-    ensures { OrMemory IsSyntax result (λ found. MatchOption found (steps.new.items ≡ steps.old.items) (λ first. GoesOn steps.old.items (Reached out.now input.now) steps.new.items (grammar_of first.now) out.now input.now)) }
+    ensures { OrMemory IsSyntax result (λ found. MatchOption found (steps.new.items ≡ steps.old.items) (λ first. Proceeds steps.old.items (Reached out.now input.now) steps.new.items (grammar_of first.now) out.now input.now)) }
 {
     let Some(step) = steps.pop() else {
         return Ok(None);
@@ -230,13 +230,13 @@ fn next_level<'a>(
     _input: &ParseBuffer<'a>,
 ) -> Parsed<&'static Form>
     requires { Begins next _input.now }
-    ensures { OrMemory IsSyntax result (λ first. GoesOn (steps.old.items ++ Levels from to ∷ []) (Reached _out.now _input.now) steps.new.items (grammar_of first.now) _out.now _input.now) }
+    ensures { OrMemory IsSyntax result (λ first. Proceeds (steps.old.items ++ Levels from to ∷ []) (Reached _out.now _input.now) steps.new.items (grammar_of first.now) _out.now _input.now) }
 {
     let level = first_level(from, to, next);
     if to <= level {
         return Ok(&EMPTY);
     }
-    let Some(form) = behind(level) else {
+    let Some(form) = following(level) else {
         return Err(Refusal::Memory(None));
     };
     steps.push(Step::Levels(level + 1, to))?;
@@ -253,10 +253,10 @@ fn below<'a>(
     input: &ParseBuffer<'a>,
 ) -> Parsed<Option<&'static Form>>
     requires { Begins next input.now }
-    ensures { OrMemory IsSyntax result (λ found. MatchOption found (steps.new.items ≡ steps.old.items) (λ first. GoesOn steps.old.items (copy_form (grammar_of form.now) out.now input.now) steps.new.items (grammar_of first.now) out.now input.now)) }
+    ensures { OrMemory IsSyntax result (λ found. MatchOption found (steps.new.items ≡ steps.old.items) (λ first. Proceeds steps.old.items (copy_form (grammar_of form.now) out.now input.now) steps.new.items (grammar_of first.now) out.now input.now)) }
 {
     match form {
-        Form::Then(one, other) => Ok(Some(put_off(one, other, steps, out, input)?)),
+        Form::Then(one, other) => Ok(Some(deferring(one, other, steps, out, input)?)),
         Form::When(look, one, other) => Ok(Some(choose(look, one, other, next, out, input)?)),
         Form::Rule(rule) => Ok(Some(begin_rule(*rule, next, steps, out, input)?)),
         Form::Part(part) => Ok(Some(begin_part(*part, out, input))),
@@ -268,14 +268,14 @@ fn below<'a>(
 
 /// Continues with the first of two forms, and defers the second.
 #[tactic(auto, using(crate::proofs::Todo::goes_first, crate::proofs::Copied::then_is))]
-fn put_off<'a>(
+fn deferring<'a>(
     one: &'static Form,
     other: &'static Form,
     steps: &mut Vec<Step<'a>>,
     out: &Writer,
     input: &ParseBuffer<'a>,
 ) -> Parsed<&'static Form>
-    ensures { OrMemory IsSyntax result (λ first. GoesOn steps.old.items (copy_form (grammar_of one.now & grammar_of other.now) out.now input.now) steps.new.items (grammar_of first.now) out.now input.now) }
+    ensures { OrMemory IsSyntax result (λ first. Proceeds steps.old.items (copy_form (grammar_of one.now & grammar_of other.now) out.now input.now) steps.new.items (grammar_of first.now) out.now input.now) }
 {
     steps.push(Step::Form(other))?;
     Ok(one)
@@ -326,7 +326,7 @@ fn begin_rule<'a>(
     input: &ParseBuffer<'a>,
 ) -> Parsed<&'static Form>
     requires { Begins next input.now }
-    ensures { OrMemory IsSyntax result (λ first. GoesOn steps.old.items (copy_form (grammar.rule (rule_of rule)) out.now input.now) steps.new.items (grammar_of first.now) out.now input.now) }
+    ensures { OrMemory IsSyntax result (λ first. Proceeds steps.old.items (copy_form (grammar.rule (rule_of rule)) out.now input.now) steps.new.items (grammar_of first.now) out.now input.now) }
 {
     match height_of(rule) {
         Some(height) => {
@@ -347,7 +347,7 @@ fn begin_other<'a>(
     input: &ParseBuffer<'a>,
 ) -> Parsed<&'static Form>
     requires { Begins next input.now }
-    ensures { OrMemory IsSyntax result (λ first. GoesOn steps.old.items (copy_form (grammar.rule (rule_of rule)) out.now input.now) steps.new.items (grammar_of first.now) out.now input.now) }
+    ensures { OrMemory IsSyntax result (λ first. Proceeds steps.old.items (copy_form (grammar.rule (rule_of rule)) out.now input.now) steps.new.items (grammar_of first.now) out.now input.now) }
 {
     match head_height_of(rule) {
         Some(height) => {

@@ -176,8 +176,8 @@ module _ (es : List Entry) (ps : List Pending) (n : ℕ) (b : IsBuilt es ps n) (
   whole = let l = kept_last es ps n b around p e in b.encoded ∙ ap (λ gs. laid gs (stream_in es)) l.is
 
   -- its opening delimiter comes before all that was added later
-  pub stands_before : p.at + 1 ≤ length es
-  stands_before =
+  pub is_before : p.at + 1 ≤ length es
+  is_before =
       let l = kept_last es ps n b around p e in
       omega (arith, here, ap length whole, length_laid l.around l.innermost (stream_in es))
 
@@ -295,8 +295,8 @@ module _ (m : ℕ) (es : List Entry) (ps : List Pending) (n : ℕ) (b : IsBuilt 
             ∙ ap (λ f. record { before = now.before; open_groups = l.around; stream = l.innermost.outer ⧺ group (delimiter_of f) (at l.innermost.opening) (at c) now.stream end }) there;
       }
 
-pub told : (s : Span) (reason : Type 0) (e : List FaultValue) → e ≡ unbalanced s → reason → IsUnbalanced s reason e
-told s reason e is r = subst (IsUnbalanced s reason) (sym is) (refl, r)
+pub reported : (s : Span) (reason : Type 0) (e : List FaultValue) → e ≡ unbalanced s → reason → IsUnbalanced s reason e
+reported s reason e is r = subst (IsUnbalanced s reason) (sym is) (refl, r)
 
 -- THE END
 
@@ -319,10 +319,10 @@ pub record First (gs : List OpenGroup) (p : Pending) : Type 0 where
   pub outermost : OpenGroup
   pub inside : List OpenGroup
   pub is : gs ≡ outermost ∷ inside
-  pub stands : p.opening ≡ outermost.opening
+  pub present : p.opening ≡ outermost.opening
 
 pub first_place : (gs : List OpenGroup) (p : Pending) (ps : List Pending) → p ∷ ps ≡ places 0 gs → First gs p
 first_place [] p ps e = absurd (cc)
 first_place (g ∷ gs) p ps e =
     let here : p ≡ pending (0 + length (encode g.outer)) g = cc in
-    record { outermost = g; inside = gs; is = refl; stands = ap (λ (q : Pending). q.opening) here }
+    record { outermost = g; inside = gs; is = refl; present = ap (λ (q : Pending). q.opening) here }

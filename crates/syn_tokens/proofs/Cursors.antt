@@ -70,7 +70,7 @@ cut_right (a ∷ ws) xs (c ∷ ys) zs e h =
 -- the group, from where its entries are split
 pub record Found (o : Open) (rest : List Entry) (n : ℕ) (content : List Entry) (c : Close) (after : List Entry) : Type 0 where
   pub inside : IsFlat content c.trees
-  pub behind : IsFlat after (n - 1)
+  pub following : IsFlat after (n - 1)
   pub is : decode (E.Open o ∷ rest) ≡ group (delimiter_of o.delimiter) (at o.span) (at c.span) (decode content) (decode after)
 
 pub found : (o : Open) (rest : List Entry) (n : ℕ) (content : List Entry) (c : Close) (after : List Entry) →
@@ -86,6 +86,6 @@ found o rest n content c after flat cut long =
     let counted : n ≡ suc (count.length b.after) = flat.counted ∙ ap count.length b.is in
     record {
       inside = is_flat content b.inner c.trees left (ap (λ (q : Close). q.trees) sign ∙ sym b.trees);
-      behind = is_flat after b.after (n - 1) others (omega arith);
+      following = is_flat after b.after (n - 1) others (omega arith);
       is = b.is ∙ (λ i. group (delimiter_of o.delimiter) (at o.span) (at (sym sign i).span) (sym (decoded content b.inner left) i) (sym (decoded after b.after others) i));
     }

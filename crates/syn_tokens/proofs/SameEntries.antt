@@ -16,13 +16,13 @@ use Rattle.syn_tokens.specs.declared.stream.entry.Token.{Token as Entry}
 use Rattle.syn_tokens.specs.declared.stream.entry.Token.TheVariants as E
 
 -- what may follow the entries of a group's content or of a whole stream
-data Behind : Type 0 where
-  nothing : Behind
-  sign : Close → List Entry → Behind
+data Following : Type 0 where
+  nothing : Following
+  sign : Close → List Entry → Following
 
-abbrev behind : Behind → List Entry
-behind nothing = []
-behind (sign c es) = E.Close c ∷ es
+abbrev following : Following → List Entry
+following nothing = []
+following (sign c es) = E.Close c ∷ es
 
 abbrev closing : grammar.Delimiter → grammar.Span → ℕ → Close
 closing d c n = record { delimiter = delimiter_from d; span = record { start = c.start; end = c.stop }; trees = n }
@@ -32,7 +32,7 @@ regroup true true c d = refl
 regroup true false c d = refl
 regroup false b c d = refl
 
-same_ahead : (a b : Stream) (x y : Behind) → same_entries (encode a ++ behind x) (encode b ++ behind y) ≡ and (same_stream a b) (same_entries (behind x) (behind y))
+same_ahead : (a b : Stream) (x y : Following) → same_entries (encode a ++ following x) (encode b ++ following y) ≡ and (same_stream a b) (same_entries (following x) (following y))
 same_ahead end end x y = refl
 same_ahead end (leaf (ident t) sp m) nothing y = refl
 same_ahead end (leaf (literal k t) sp m) nothing y = refl
@@ -51,7 +51,7 @@ same_ahead (leaf (ident t) sp m) (leaf (ident u) sq n) x y =
 same_ahead (leaf (ident t) sp m) (leaf (literal k u) sq n) x y = refl
 same_ahead (leaf (literal k t) sp m) (leaf (ident u) sq n) x y = refl
 same_ahead (leaf (literal k t) sp m) (leaf (literal l u) sq n) x y =
-    ap (λ b. and b (same_entries (encode m ++ behind x) (encode n ++ behind y))) (λ i. and (nat_eq (grammar.kind_number (kind_back k i)) (grammar.kind_number (kind_back l i))) (grammar.same_text t u))
+    ap (λ b. and b (same_entries (encode m ++ following x) (encode n ++ following y))) (λ i. and (nat_eq (grammar.kind_number (kind_back k i)) (grammar.kind_number (kind_back l i))) (grammar.same_text t u))
     ∙ ap (and (and (nat_eq (grammar.kind_number k) (grammar.kind_number l)) (grammar.same_text t u))) (same_ahead m n x y)
     ∙ and_assoc (and (nat_eq (grammar.kind_number k) (grammar.kind_number l)) (grammar.same_text t u)) (same_stream m n) _
 same_ahead (leaf (ident t) sp m) (punct c j sq n) x y = refl
@@ -63,10 +63,10 @@ same_ahead (punct c j sp m) end x (sign d es) = refl
 same_ahead (punct c j sp m) (leaf (ident u) sq n) x y = refl
 same_ahead (punct c j sp m) (leaf (literal k u) sq n) x y = refl
 same_ahead (punct c j sp m) (punct d k sq n) x y =
-    ap (λ b. and b (same_entries (encode m ++ behind x) (encode n ++ behind y))) (λ i. and (nat_eq c d) (same_bool (joint_back j i) (joint_back k i)))
+    ap (λ b. and b (same_entries (encode m ++ following x) (encode n ++ following y))) (λ i. and (nat_eq c d) (same_bool (joint_back j i) (joint_back k i)))
     ∙ ap (and (and (nat_eq c d) (same_bool j k))) (same_ahead m n x y)
     ∙ and_assoc (and (nat_eq c d) (same_bool j k)) (same_stream m n) _
-    ∙ ap (λ b. and b (same_entries (behind x) (behind y))) (sym (and_assoc (nat_eq c d) (same_bool j k) (same_stream m n)))
+    ∙ ap (λ b. and b (same_entries (following x) (following y))) (sym (and_assoc (nat_eq c d) (same_bool j k) (same_stream m n)))
 same_ahead (punct c j sp m) (group d o q i n) x y = refl
 same_ahead (group d o c i m) end x nothing = refl
 same_ahead (group d o c i m) end x (sign e es) = refl
@@ -74,9 +74,9 @@ same_ahead (group d o c i m) (leaf (ident u) sq n) x y = refl
 same_ahead (group d o c i m) (leaf (literal k u) sq n) x y = refl
 same_ahead (group d o c i m) (punct e j sq n) x y = refl
 same_ahead (group d o c i m) (group e p q j n) x y =
-    ap (λ b. and b (same_entries ((encode i ++ close_entry d c (count.length i) ∷ encode m) ++ behind x) ((encode j ++ close_entry e q (count.length j) ∷ encode n) ++ behind y))) (λ k. same_delimiter (delimiter_back d k) (delimiter_back e k))
-    ∙ ap (and (same_delimiter d e)) (λ k. same_entries (append_assoc (encode i) (close_entry d c (count.length i) ∷ encode m) (behind x) k) (append_assoc (encode j) (close_entry e q (count.length j) ∷ encode n) (behind y) k))
-    ∙ ap (and (same_delimiter d e)) (same_ahead i j (sign (closing d c (count.length i)) (encode m ++ behind x)) (sign (closing e q (count.length j)) (encode n ++ behind y)))
+    ap (λ b. and b (same_entries ((encode i ++ close_entry d c (count.length i) ∷ encode m) ++ following x) ((encode j ++ close_entry e q (count.length j) ∷ encode n) ++ following y))) (λ k. same_delimiter (delimiter_back d k) (delimiter_back e k))
+    ∙ ap (and (same_delimiter d e)) (λ k. same_entries (append_assoc (encode i) (close_entry d c (count.length i) ∷ encode m) (following x) k) (append_assoc (encode j) (close_entry e q (count.length j) ∷ encode n) (following y) k))
+    ∙ ap (and (same_delimiter d e)) (same_ahead i j (sign (closing d c (count.length i)) (encode m ++ following x)) (sign (closing e q (count.length j)) (encode n ++ following y)))
     ∙ ap (λ b. and (same_delimiter d e) (and (same_stream i j) b)) (same_ahead m n x y)
     ∙ regroup (same_delimiter d e) (same_stream i j) (same_stream m n) _
 

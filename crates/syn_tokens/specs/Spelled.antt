@@ -33,8 +33,8 @@ and_right : (a b : Bool) → and a b ≡ true → b ≡ true
 and_right true b e = e
 and_right false b e = absurd (true≢false (sym e))
 
-goes_on : (c : ℕ) → is_letter c ≡ true → is_xid_continue c ≡ true
-goes_on c e = is_xid_continue-ascii c (ltb-true c 128 (and_left (nat_lt c 128) _ e)) ∙ go (is_in_range 48 57 c) (is_in_range 65 90 c) (is_in_range 97 122 c) (c == 95) (and_right (nat_lt c 128) _ e)
+proceeds : (c : ℕ) → is_letter c ≡ true → is_xid_continue c ≡ true
+proceeds c e = is_xid_continue-ascii c (ltb-true c 128 (and_left (nat_lt c 128) _ e)) ∙ go (is_in_range 48 57 c) (is_in_range 65 90 c) (is_in_range 97 122 c) (c == 95) (and_right (nat_lt c 128) _ e)
   where
     go : (d a b u : Bool) → or (a || b) u ≡ true → (((d || a) || b) || u) ≡ true
     go true a b u f = refl
@@ -58,7 +58,7 @@ all_ascii (c ∷ l) e (suc i) = all_ascii l (and_right (is_letter c) _ e) i
 
 all_go_on : (l : Text) → all_letters l ≡ true → list_all is_xid_continue l ≡ true
 all_go_on [] e = refl
-all_go_on (c ∷ l) e = ap (λ a. a && list_all is_xid_continue l) (goes_on c (and_left (is_letter c) _ e)) ∙ all_go_on l (and_right (is_letter c) _ e)
+all_go_on (c ∷ l) e = ap (λ a. a && list_all is_xid_continue l) (proceeds c (and_left (is_letter c) _ e)) ∙ all_go_on l (and_right (is_letter c) _ e)
 
 not_raw : (c d : ℕ) (l : Text) → is_letter d ≡ true → begins_text (codes "r#") (c ∷ d ∷ l) ≡ false
 not_raw c d l e = go (nat_eq 114 c) (nat_eq 35 d) refl

@@ -36,7 +36,7 @@ pub trait ToTokens: Print {
         ensures memory { IfErr result (λ e. e ≡ []) }
     {
         let empty = TokenStream::new(tokens.alloc());
-        let mut out = StreamBuilder::behind(std::mem::replace(tokens, empty));
+        let mut out = StreamBuilder::following(std::mem::replace(tokens, empty));
         match self.print_in(&mut out) {
             Ok(()) => {
                 *tokens = out.into_stream();

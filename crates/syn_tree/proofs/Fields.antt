@@ -16,7 +16,7 @@ use Rattle.syn_parse.specs.Form.{by, of}
 use Rattle.syn_parse.specs.Listing.{IsList}
 use Rattle.syn_lower.specs.Parts.{first, second, or_added}
 use Rattle.syn_tree.specs.Data.{field_name, field_parts}
-use Rattle.syn_lower.proofs.Compared.{told}
+use Rattle.syn_lower.proofs.Compared.{reported}
 
 -- fields with names are a list with commas
 pub named_fields_list : IsList named_fields (of (rule named_field)) (by ended) (by (at_mark comma)) (of (mark false comma))
@@ -61,4 +61,4 @@ known_parts None None t d = refl
 
 pub same_field : (i j : Option IdentValue) (c e : Option Colon) (s t a d : Syntax) →
     same_syntax (field_parts (maybe syntax_of_ident i) (maybe colon_syntax c) s a) (field_parts (maybe syntax_of_ident j) (maybe colon_syntax e) t d) ≡ and (same_syntax (maybe syntax_of_ident i) (maybe syntax_of_ident j)) (and (same_syntax (maybe colon_syntax c) (maybe colon_syntax e)) (and (same_syntax s t) (same_syntax a d)))
-same_field i j c e s t a d = told parts_of parts_back _ _ (listed i c s a) (listed j e t d) (plain_parts i c s a) (plain_parts j e t d) (known_parts i c s a) (known_parts j e t d)
+same_field i j c e s t a d = reported parts_of parts_back _ _ (listed i c s a) (listed j e t d) (plain_parts i c s a) (plain_parts j e t d) (known_parts i c s a) (known_parts j e t d)

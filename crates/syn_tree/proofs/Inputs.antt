@@ -18,7 +18,7 @@ use Rattle.syn_tree.specs.Data.{syntax_of_Fields}
 use Rattle.syn_tree.specs.Derive.{structure_body_of, shape_of, input_of, syntax_of_Data, structure_form, enumeration_form, union_form, shape_form, placed}
 use Rattle.syn_tree.specs.declared.data.Fields.TheVariants as Fields-m
 use Rattle.syn_tree.specs.declared.derive.Data.TheVariants as Data-m
-use Rattle.syn_lower.proofs.Compared.{told}
+use Rattle.syn_lower.proofs.Compared.{reported}
 
 -- AS THEY ARE READ: the three rules begin alike, so the beginning is read once, and then the next word decides which it is
 
@@ -27,37 +27,37 @@ abbrev answer : Out → Out → Out → Out
 answer a b c = wrap Node (named structure a (named enumeration b (named union_item c None)))
 
 -- after attributes and a visibility
-abbrev behind : Syntax → Syntax → Out → Out
-behind a v o = wrap Node (wrap (Both a) (wrap Node (wrap (Both v) o)))
+abbrev following : Syntax → Syntax → Out → Out
+following a v o = wrap Node (wrap (Both a) (wrap Node (wrap (Both v) o)))
 
 turn : (a v : Syntax) (r : Stream) (b c : Bool) → sees (at_word w_struct) r ≡ b → sees (at_word w_enum) r ≡ c →
-    answer (behind a v (parse_form structure_form r)) (behind a v (parse_form enumeration_form r)) (behind a v (parse_form union_form r))
+    answer (following a v (parse_form structure_form r)) (following a v (parse_form enumeration_form r)) (following a v (parse_form union_form r))
     ≡ wrap placed (wrap (Both a) (wrap (Both v) (branch b (parse_form structure_form r) (branch c (parse_form enumeration_form r) (parse_form union_form r)))))
 turn a v r true c e f =
-    ap₂ (λ x y. answer (behind a v (parse_form structure_form r)) (behind a v x) (behind a v y)) (not_here (at_word w_struct) enumeration_form refl r e) (not_here (at_word w_struct) union_form refl r e)
+    ap₂ (λ x y. answer (following a v (parse_form structure_form r)) (following a v x) (following a v y)) (not_here (at_word w_struct) enumeration_form refl r e) (not_here (at_word w_struct) union_form refl r e)
     ∙ go (parse_form structure_form r)
   where
-    go : (o : Out) → answer (behind a v o) None None ≡ wrap placed (wrap (Both a) (wrap (Both v) (wrap Left o)))
+    go : (o : Out) → answer (following a v o) None None ≡ wrap placed (wrap (Both a) (wrap (Both v) (wrap Left o)))
     go None = refl
     go (Some p) = refl
 turn a v r false true e f =
-    ap₂ (λ x y. answer (behind a v x) (behind a v (parse_form enumeration_form r)) (behind a v y)) (not_there (at_word w_struct) structure_form refl r e) (not_here (at_word w_enum) union_form refl r f)
+    ap₂ (λ x y. answer (following a v x) (following a v (parse_form enumeration_form r)) (following a v y)) (not_there (at_word w_struct) structure_form refl r e) (not_here (at_word w_enum) union_form refl r f)
     ∙ go (parse_form enumeration_form r)
   where
-    go : (o : Out) → answer None (behind a v o) None ≡ wrap placed (wrap (Both a) (wrap (Both v) (wrap Right (wrap Left o))))
+    go : (o : Out) → answer None (following a v o) None ≡ wrap placed (wrap (Both a) (wrap (Both v) (wrap Right (wrap Left o))))
     go None = refl
     go (Some p) = refl
 turn a v r false false e f =
-    ap₂ (λ x y. answer (behind a v x) (behind a v y) (behind a v (parse_form union_form r))) (not_there (at_word w_struct) structure_form refl r e) (not_there (at_word w_enum) enumeration_form refl r f)
+    ap₂ (λ x y. answer (following a v x) (following a v y) (following a v (parse_form union_form r))) (not_there (at_word w_struct) structure_form refl r e) (not_there (at_word w_enum) enumeration_form refl r f)
     ∙ go (parse_form union_form r)
   where
-    go : (o : Out) → answer None None (behind a v o) ≡ wrap placed (wrap (Both a) (wrap (Both v) (wrap Right (wrap Right o))))
+    go : (o : Out) → answer None None (following a v o) ≡ wrap placed (wrap (Both a) (wrap (Both v) (wrap Right (wrap Right o))))
     go None = refl
     go (Some p) = refl
 
 -- the rule of one kind, after the attributes
-abbrev behind_attributes : Out → (Stream → Out) → Out
-behind_attributes o p = wrap Node (and_then o (λ m. wrap Node (and_then (parse_rule visibility m) p)))
+abbrev after_attributes : Out → (Stream → Out) → Out
+after_attributes o p = wrap Node (and_then o (λ m. wrap Node (and_then (parse_rule visibility m) p)))
 
 at_attributes : (o : Out) (p q : Stream → Out) → ((m : Stream) → p m ≡ q m) → wrap Node (and_then o p) ≡ wrap Node (and_then o q)
 at_attributes None p q h = refl
@@ -67,7 +67,7 @@ pub derive_input_turns : (ts : Stream) → parse_rule derive_input ts ≡ wrap p
 derive_input_turns ts =
     derive_input_is ts
     ∙ ap (λ x. answer x (parse_rule enumeration ts) (parse_rule union_item ts)) (structure_is ts ∙ at_attributes (parse_rule attributes ts) _ _ structure_rest_is)
-    ∙ ap₂ (answer (behind_attributes (parse_rule attributes ts) (parse_form structure_form))) (enumeration_is ts ∙ at_attributes (parse_rule attributes ts) _ _ enumeration_rest_is) (union_item_is ts ∙ at_attributes (parse_rule attributes ts) _ _ union_item_rest_is)
+    ∙ ap₂ (answer (after_attributes (parse_rule attributes ts) (parse_form structure_form))) (enumeration_is ts ∙ at_attributes (parse_rule attributes ts) _ _ enumeration_rest_is) (union_item_is ts ∙ at_attributes (parse_rule attributes ts) _ _ union_item_rest_is)
     ∙ go (parse_rule attributes ts)
   where
     inner : (a : Syntax) (o : Out) →
@@ -76,7 +76,7 @@ derive_input_turns ts =
     inner a None = refl
     inner a (Some q) = turn a q.0 q.1 (sees (at_word w_struct) q.1) (sees (at_word w_enum) q.1) refl refl
 
-    go : (o : Out) → answer (behind_attributes o (parse_form structure_form)) (behind_attributes o (parse_form enumeration_form)) (behind_attributes o (parse_form union_form)) ≡ wrap placed (and_then o (λ m. and_then (parse_rule visibility m) (parse_form shape_form)))
+    go : (o : Out) → answer (after_attributes o (parse_form structure_form)) (after_attributes o (parse_form enumeration_form)) (after_attributes o (parse_form union_form)) ≡ wrap placed (and_then o (λ m. and_then (parse_rule visibility m) (parse_form shape_form)))
     go None = refl
     go (Some p) = inner p.0 (parse_rule visibility p.1)
 
@@ -129,7 +129,7 @@ known_body Fields-m.«Unit» c None = refl
 
 pub same_body : (f g : Fields-m.the_data) (c d : Syntax) (s t : Option Semi) →
     same_syntax (structure_body_of (syntax_of_Fields f) c (maybe semi_syntax s)) (structure_body_of (syntax_of_Fields g) d (maybe semi_syntax t)) ≡ and (same_syntax (syntax_of_Fields f) (syntax_of_Fields g)) (and (same_syntax c d) (same_syntax (maybe semi_syntax s) (maybe semi_syntax t)))
-same_body f g c d s t = told body_of body_back _ _ (listed f c s) (listed g d t) (plain_body f c s) (plain_body g d t) (known_body f c s) (known_body g d t)
+same_body f g c d s t = reported body_of body_back _ _ (listed f c s) (listed g d t) (plain_body f c s) (plain_body g d t) (known_body f c s) (known_body g d t)
 
 -- AN INPUT, compared by its parts, whichever kind it is of
 
@@ -187,4 +187,4 @@ module _ (a v i p c : Syntax) where
 
 pub same_input : (a b v w i j p q c d : Syntax) (x y : Data-m.the_data) →
     same_syntax (input_of a v (shape_of i p c (syntax_of_Data x))) (input_of b w (shape_of j q d (syntax_of_Data y))) ≡ and (same_syntax a b) (and (same_syntax v w) (and (same_syntax i j) (and (same_syntax p q) (and (same_syntax c d) (same_syntax (syntax_of_Data x) (syntax_of_Data y))))))
-same_input a b v w i j p q c d x y = told whole parts_back _ _ (in_order a v i p c x) (in_order b w j q d y) (plain_input a v i p c x) (plain_input b w j q d y) (known_input a v i p c x) (known_input b w j q d y)
+same_input a b v w i j p q c d x y = reported whole parts_back _ _ (in_order a v i p c x) (in_order b w j q d y) (plain_input a v i p c x) (plain_input b w j q d y) (known_input a v i p c x) (known_input b w j q d y)

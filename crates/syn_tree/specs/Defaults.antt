@@ -15,12 +15,12 @@ pub record HasDefault (ts default : Stream) : Type 0 where
   pub vis : Syntax
   pub after_vis : Stream
   pub ty : Syntax
-  pub behind_type : Stream
+  pub after_type : Stream
   pub reads_attrs : parse_rule attributes ts ≡ Some (attrs, after_attrs)
   pub reads_vis : parse_rule visibility after_attrs ≡ Some (vis, after_vis)
-  pub reads_type : parse_rule type after_vis ≡ Some (ty, behind_type)
-  pub equals : sees at_equals behind_type ≡ true
-  pub is : default ≡ past behind_type
+  pub reads_type : parse_rule type after_vis ≡ Some (ty, after_type)
+  pub equals : sees at_equals after_type ≡ true
+  pub is : default ≡ past after_type
 
 abbrev pub no_default : List ℕ
 no_default = codes "field default value is only supported in structs with named fields"

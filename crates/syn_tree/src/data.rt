@@ -155,7 +155,7 @@ impl Field {
             default: None,
         };
         if input.peek::<Eq>() {
-            return Err(input.refusal_behind(
+            return Err(input.refusal_after(
                 "field default value is only supported in structs with named fields",
             ));
         }

@@ -11,7 +11,7 @@ use syn_outlines::stream_shown;
 /// told of at another byte than that.
 #[derive(Clone, Copy, PartialEq, Eq)]
 pub(crate) struct Place {
-    pub(crate) told: usize,
+    pub(crate) reported: usize,
     pub(crate) stopped: usize,
     /// What is told is a fault of which trees tell at the byte at which reading stopped, where they keep the item as its tokens.
     pub(crate) is_of_item: bool,
@@ -83,7 +83,7 @@ impl Answer {
         }
         let start = error.span().start;
         Answer::Refused(Place {
-            told: start,
+            reported: start,
             stopped: start,
             is_of_item: error
                 .faults()
@@ -97,7 +97,7 @@ impl Answer {
     pub(crate) fn is_as_by_rule(&self, by_rule: &Answer) -> bool {
         match (self, by_rule) {
             (Answer::Refused(tree), Answer::Refused(rule)) => {
-                tree.told == rule.told || rule.is_of_item && tree.told == rule.stopped
+                tree.reported == rule.reported || rule.is_of_item && tree.reported == rule.stopped
             }
             _ => self == by_rule,
         }
@@ -111,11 +111,11 @@ impl fmt::Display for Answer {
             Answer::Read => f.write_str("read"),
             Answer::Compared(true) => f.write_str("the same"),
             Answer::Compared(false) => f.write_str("another"),
-            Answer::Refused(place) if place.told == place.stopped => {
-                write!(f, "refused at {}", place.told)
+            Answer::Refused(place) if place.reported == place.stopped => {
+                write!(f, "refused at {}", place.reported)
             }
             Answer::Refused(place) => {
-                write!(f, "refused at {} or {}", place.told, place.stopped)
+                write!(f, "refused at {} or {}", place.reported, place.stopped)
             }
             Answer::Memory => f.write_str("memory refused"),
         }

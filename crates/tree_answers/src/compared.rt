@@ -73,8 +73,8 @@ fn stopped(answer: Answer, rule: Rule, tokens: &TokenStream) -> Answer {
     };
     match Answer::of_check(&read_whole(rule, tokens)) {
         Answer::Refused(stopped) => Answer::Refused(Place {
-            told: place.told,
-            stopped: stopped.told,
+            reported: place.reported,
+            stopped: stopped.reported,
             is_of_item: place.is_of_item,
         }),
         other => other,

@@ -99,12 +99,12 @@ impl Tally {
             self.counts.count(question, by_tree);
         } else {
             add_one(&mut self.counts.differ);
-            self.tell(case, kind, question, by_tree, by_rule)?;
+            self.settle(case, kind, question, by_tree, by_rule)?;
         }
         Ok(())
     }
 
-    fn tell(
+    fn settle(
         &mut self,
         case: &Case<'_>,
         kind: &Kind,

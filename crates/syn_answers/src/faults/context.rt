@@ -72,7 +72,7 @@ impl<'a> Place<'a> {
 
     /// Passes or enters the next tree if that leads to the byte; returns false at the place.
     fn moves_to(&mut self, byte: usize) -> bool {
-        let Some((tree, behind)) = self.trees.split() else {
+        let Some((tree, following)) = self.trees.split() else {
             return false;
         };
         if byte <= tree.span().start {
@@ -83,11 +83,11 @@ impl<'a> Place<'a> {
                 if byte <= group.closing.start {
                     self.enter(group);
                 } else {
-                    self.pass(&TokenTreeRef::Group(group), behind);
+                    self.pass(&TokenTreeRef::Group(group), following);
                 }
             }
             TokenTreeRef::Ident(_) | TokenTreeRef::Literal(_) | TokenTreeRef::Punct(_) => {
-                self.pass(&tree, behind)
+                self.pass(&tree, following)
             }
         }
         true
@@ -114,16 +114,16 @@ impl<'a> Place<'a> {
     }
 
     /// Passes a tree that these trees follow.
-    fn pass(&mut self, tree: &TokenTreeRef<'a>, behind: Cursor<'a>) {
+    fn pass(&mut self, tree: &TokenTreeRef<'a>, following: Cursor<'a>) {
         self.before = self.before_after(tree);
         self.angles.pass(tree);
         match tree {
-            TokenTreeRef::Ident(ident) => self.pass_word(ident.text(), &behind),
+            TokenTreeRef::Ident(ident) => self.pass_word(ident.text(), &following),
             TokenTreeRef::Literal(_) => {}
             TokenTreeRef::Punct(punct) => self.pass_mark(punct.character()),
             TokenTreeRef::Group(group) => self.pass_group(group.delimiter),
         }
-        self.trees = behind;
+        self.trees = following;
     }
 
     /// What is before the place after this tree.
@@ -171,11 +171,11 @@ impl<'a> Place<'a> {
     }
 
     /// Begins or ends a context at this word, which these trees follow.
-    fn pass_word(&mut self, word: &str, behind: &Cursor<'a>) {
+    fn pass_word(&mut self, word: &str, following: &Cursor<'a>) {
         match word {
             "use" => self.begin(Context::Use),
             "fn" => self.begin(Context::Function),
-            "impl" => self.begin(Context::Impl(behind.fork())),
+            "impl" => self.begin(Context::Impl(following.fork())),
             "for" | "where" => {
                 if matches!(&self.context, Context::Impl(_)) && self.angles.are_closed() {
                     self.begin(Context::Other);

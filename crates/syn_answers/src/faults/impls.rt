@@ -13,7 +13,7 @@ fn is_at_generics(trees: &Cursor<'_>) -> bool {
         return false;
     }
     match trees.split() {
-        Some((_less, behind)) => is_at('>', &behind) || is_at_parameter(&behind),
+        Some((_less, following)) => is_at('>', &following) || is_at_parameter(&following),
         None => false,
     }
 }
@@ -24,7 +24,7 @@ fn is_at_parameter(trees: &Cursor<'_>) -> bool {
         return true;
     }
     match trees.split_ident() {
-        Some((ident, behind)) => !ident.is_keyword() && !is_at_type_rest(&behind),
+        Some((ident, following)) => !ident.is_keyword() && !is_at_type_rest(&following),
         None => false,
     }
 }
@@ -45,11 +45,11 @@ fn after_generics<'a>(trees: &Cursor<'a>) -> Cursor<'a> {
     }
     let mut angles = Angles::none();
     for _tree in 0..trees.len() {
-        let Some((tree, behind)) = rest.split() else {
+        let Some((tree, following)) = rest.split() else {
             return rest;
         };
         angles.pass(&tree);
-        rest = behind;
+        rest = following;
         if angles.are_closed() {
             return rest;
         }
@@ -68,11 +68,11 @@ struct Header<'a> {
 fn header_after<'a>(after_impl: &Cursor<'a>) -> Header<'a> {
     let ty = after_generics(after_impl);
     match ty.split_punct() {
-        Some((punct, behind)) => {
-            if punct.character() == '!' && !behind.is_at_group(Delimiter::Brace) {
+        Some((punct, following)) => {
+            if punct.character() == '!' && !following.is_at_group(Delimiter::Brace) {
                 Header {
                     bang: Some(punct),
-                    ty: behind,
+                    ty: following,
                 }
             } else {
                 Header { bang: None, ty }
@@ -84,10 +84,10 @@ fn header_after<'a>(after_impl: &Cursor<'a>) -> Header<'a> {
 
 /// The error of a negative impl without a trait, where `for` is missing.
 pub(crate) fn negative_inherent(place: &Place<'_>) -> Option<Fault> {
-    let Context::Impl(behind) = &place.context else {
+    let Context::Impl(following) = &place.context else {
         return None;
     };
-    negative(header_after(behind).bang)
+    negative(header_after(following).bang)
 }
 
 /// The error of this `!`.
@@ -101,11 +101,11 @@ fn negative(bang: Option<Punct>) -> Option<Fault> {
 
 /// The error of a type in place of a trait, at the `for` after it.
 pub(crate) fn no_trait(place: &Place<'_>) -> Option<Fault> {
-    let Context::Impl(behind) = &place.context else {
+    let Context::Impl(following) = &place.context else {
         return None;
     };
     if is_at_word("for", &place.trees) {
-        no_trait_at(&header_after(behind).ty)
+        no_trait_at(&header_after(following).ty)
     } else {
         None
     }
@@ -122,10 +122,10 @@ fn no_trait_at(ty: &Cursor<'_>) -> Option<Fault> {
 
 /// The error of a negative impl at its first type, where that is no path.
 pub(crate) fn negative_of_type(place: &Place<'_>) -> Option<Fault> {
-    let Context::Impl(behind) = &place.context else {
+    let Context::Impl(following) = &place.context else {
         return None;
     };
-    let header = header_after(behind);
+    let header = header_after(following);
     if header.bang.is_none()
         || header.ty.len() != place.trees.len()
         || !is_at_other_type(&header.ty)
@@ -157,14 +157,14 @@ fn is_before_for(ty: &Cursor<'_>) -> bool {
         if angles.are_closed() && is_at_word("for", &rest) {
             return true;
         }
-        let Some((tree, behind)) = rest.split() else {
+        let Some((tree, following)) = rest.split() else {
             return false;
         };
         if angles.are_closed() && ends_type(&tree) {
             return false;
         }
         angles.pass(&tree);
-        rest = behind;
+        rest = following;
     }
     false
 }

@@ -19,10 +19,10 @@ pub(crate) fn is_at_word(word: &str, trees: &Cursor<'_>) -> bool {
 }
 
 /// The tokens after this character of a mark, if it is next and joined to the mark after it.
-fn behind_joint<'a>(character: char, trees: &Cursor<'a>) -> Option<Cursor<'a>> {
-    let (punct, behind) = trees.split_punct()?;
+fn after_joint<'a>(character: char, trees: &Cursor<'a>) -> Option<Cursor<'a>> {
+    let (punct, following) = trees.split_punct()?;
     if punct.character() == character && punct.spacing == Spacing::Joint {
-        Some(behind)
+        Some(following)
     } else {
         None
     }
@@ -30,36 +30,36 @@ fn behind_joint<'a>(character: char, trees: &Cursor<'a>) -> Option<Cursor<'a>> {
 
 /// Whether this mark of two characters is next.
 pub(crate) fn is_at_both(first: char, second: char, trees: &Cursor<'_>) -> bool {
-    match behind_joint(first, trees) {
-        Some(behind) => is_at(second, &behind),
+    match after_joint(first, trees) {
+        Some(following) => is_at(second, &following),
         None => false,
     }
 }
 
 /// The tokens after the lifetime, if one is next.
 pub(crate) fn after_lifetime<'a>(trees: &Cursor<'a>) -> Option<Cursor<'a>> {
-    let (_name, behind) = behind_joint('\'', trees)?.split_ident()?;
-    Some(behind)
+    let (_name, following) = after_joint('\'', trees)?.split_ident()?;
+    Some(following)
 }
 
 /// The tokens after the attributes that are next.
-pub(crate) fn behind_attributes<'a>(trees: &Cursor<'a>) -> Cursor<'a> {
+pub(crate) fn after_attributes<'a>(trees: &Cursor<'a>) -> Cursor<'a> {
     let mut rest = trees.fork();
     for _tree in 0..trees.len() {
-        let Some(behind) = after_attribute(&rest) else {
+        let Some(following) = after_attribute(&rest) else {
             return rest;
         };
-        rest = behind;
+        rest = following;
     }
     rest
 }
 
 /// The tokens after the attribute, if one is next.
 fn after_attribute<'a>(trees: &Cursor<'a>) -> Option<Cursor<'a>> {
-    let (punct, behind) = trees.split_punct()?;
+    let (punct, following) = trees.split_punct()?;
     if punct.character() != '#' {
         return None;
     }
-    let (_brackets, behind) = behind.split()?;
-    Some(behind)
+    let (_brackets, following) = following.split()?;
+    Some(following)
 }

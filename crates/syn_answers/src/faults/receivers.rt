@@ -1,7 +1,7 @@
 //! Receivers where none is accepted.
 use crate::faults::Fault;
 use crate::faults::context::{Before, Context, Place};
-use crate::faults::marks::{after_lifetime, behind_attributes, is_at, is_at_both};
+use crate::faults::marks::{after_attributes, after_lifetime, is_at, is_at_both};
 use crate::names::after_mut;
 use syn_tokens::ident::ident_ref::IdentRef;
 use syn_tokens::span::Span;
@@ -12,20 +12,20 @@ fn after_reference<'a>(trees: &Cursor<'a>) -> Cursor<'a> {
     if !is_at('&', trees) {
         return trees.fork();
     }
-    let Some((_and, behind)) = trees.split() else {
+    let Some((_and, following)) = trees.split() else {
         return trees.fork();
     };
-    match after_lifetime(&behind) {
-        Some(behind) => behind,
-        None => behind,
+    match after_lifetime(&following) {
+        Some(following) => following,
+        None => following,
     }
 }
 
 /// The `self` of what looks like a receiver, if one is next, and the tokens after it.
 fn split_self<'a>(trees: &Cursor<'a>) -> Option<(IdentRef<'a>, Cursor<'a>)> {
-    let (ident, behind) = after_mut(&after_reference(trees)).split_ident()?;
+    let (ident, following) = after_mut(&after_reference(trees)).split_ident()?;
     if ident.is("self") {
-        Some((ident, behind))
+        Some((ident, following))
     } else {
         None
     }
@@ -33,8 +33,8 @@ fn split_self<'a>(trees: &Cursor<'a>) -> Option<(IdentRef<'a>, Cursor<'a>)> {
 
 /// The span of the `self` of the receiver that is next. A `self` before `::` is none.
 fn receiver(trees: &Cursor<'_>) -> Option<Span> {
-    let (ident, behind) = split_self(trees)?;
-    if is_at_both(':', ':', &behind) {
+    let (ident, following) = split_self(trees)?;
+    if is_at_both(':', ':', &following) {
         None
     } else {
         Some(ident.span)
@@ -50,7 +50,7 @@ pub(crate) fn late_receiver(place: &Place<'_>) -> Option<Fault> {
         return None;
     }
     let span = receiver(&place.trees)?;
-    let text = match receiver(&behind_attributes(arguments)) {
+    let text = match receiver(&after_attributes(arguments)) {
         Some(_) => "unexpected second method receiver",
         None => "unexpected method receiver",
     };
@@ -59,9 +59,9 @@ pub(crate) fn late_receiver(place: &Place<'_>) -> Option<Fault> {
 
 /// The error of a `::` at this byte, after the `self` of a stream that should be a receiver.
 pub(crate) fn path_in_place_of_receiver(byte: usize, trees: &Cursor<'_>) -> Option<Fault> {
-    let (_word, behind) = split_self(trees)?;
-    let (colon, _) = behind.split_punct()?;
-    if is_at_both(':', ':', &behind) && colon.span.start == byte {
+    let (_word, following) = split_self(trees)?;
+    let (colon, _) = following.split_punct()?;
+    if is_at_both(':', ':', &following) && colon.span.start == byte {
         Some(Fault {
             span: colon.span,
             text: "expected `:`",

@@ -9,7 +9,7 @@ use syn_tokens::error::{Error, Result};
 use syn_tokens::stream::TokenStream;
 
 /// The text of a stream, or where it is refused: `refused at 1: no item`.
-fn told(alloc: Global, answer: Result<TokenStream>) -> Result<String> {
+fn reported(alloc: Global, answer: Result<TokenStream>) -> Result<String> {
     match answer {
         Ok(tokens) => token_text(&tokens),
         Err(error) => refusal(alloc, error),
@@ -62,7 +62,7 @@ pub fn joined(alloc: Global, texts: &[&str]) -> Result<String> {
     for text in texts {
         pieces.push(read_tokens(alloc, text)?)?;
     }
-    told(alloc, join_items(alloc, pieces.as_slice()))
+    reported(alloc, join_items(alloc, pieces.as_slice()))
 }
 
 /// What a file lists: of each item its name and its span, or `-`.

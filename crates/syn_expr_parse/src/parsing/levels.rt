@@ -13,7 +13,7 @@ ghost use Rattle.syn_expr_parse.specs.Levels.{IsLevel, Operator, ReadsOperator, 
 ghost use Rattle.syn_expr_parse.specs.Operators.{syntax_of_BinOp};
 ghost use Rattle.syn_expr_parse.specs.Spots.{within};
 
-mod behind;
+mod following;
 mod looks;
 mod operators;
 mod rows;
@@ -22,7 +22,7 @@ use crate::op::BinOp;
 use crate::parsing::nested::{Expr, Nested, Spot};
 use crate::parsing::postfix::postfixes;
 use crate::trees::Trees;
-use behind::{assigned, casts, compared};
+use following::{assigned, casts, compared};
 use rows::{BitAnds, BitOrs, BitXors, Conjunctions, Disjunctions, Products, Shifts, Sums};
 use std::alloc::Global;
 use syn_parse::buffer::ParseBuffer;

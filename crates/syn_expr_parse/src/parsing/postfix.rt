@@ -5,7 +5,7 @@ ghost use Rattle.syn_grammar.specs.Table as table;
 ghost use Rattle.syn_grammar.specs.Words.{question};
 ghost use Rattle.syn_grammar.specs.Forms.{punctuation};
 ghost use Rattle.syn_grammar.specs.Grammar.{Left, Right};
-ghost use Rattle.syn_grammar.specs.Shape.{Call, Index as Indexing, Try, behind_it, dotted};
+ghost use Rattle.syn_grammar.specs.Shape.{Call, Index as Indexing, Try, after_it, dotted};
 ghost use Rattle.syn_grammar.specs.Values.{core, onto};
 ghost use Rattle.syn_grammar.specs.Run.{wrap};
 ghost use Rattle.syn_tokens.specs.Kinds.{dot_syntax};
@@ -58,7 +58,7 @@ fn called<N: Nested>(
     input: &mut ParseBuffer<'_>,
 ) -> Parsed<Box<Expr<N>>>
     requires { MayBelow N.may nested.now input.old }
-    ensures reads { Computes IsSyntax (λ e. N.Trees.expr_syntax e.value) (linked (behind_it Call) (N.Trees.expr_syntax func.value) (parse_form arguments_form input.old)) result input.new }
+    ensures reads { Computes IsSyntax (λ e. N.Trees.expr_syntax e.value) (linked (after_it Call) (N.Trees.expr_syntax func.value) (parse_form arguments_form input.old)) result input.new }
     ensures moved { Moved input.old result input.new }
 {
     let (paren_token, args) = arguments(nested, input)?;
@@ -73,7 +73,7 @@ fn indexed<N: Nested>(
     input: &mut ParseBuffer<'_>,
 ) -> Parsed<Box<Expr<N>>>
     requires { MayBelow N.may nested.now input.old }
-    ensures reads { Computes IsSyntax (λ e. N.Trees.expr_syntax e.value) (linked (behind_it Indexing) (N.Trees.expr_syntax expr.value) (parse_form index_form input.old)) result input.new }
+    ensures reads { Computes IsSyntax (λ e. N.Trees.expr_syntax e.value) (linked (after_it Indexing) (N.Trees.expr_syntax expr.value) (parse_form index_form input.old)) result input.new }
     ensures moved { Moved input.old result input.new }
 {
     let (bracket_token, mut content) = input.read_group::<kind::Bracket>()?;
@@ -84,7 +84,7 @@ fn indexed<N: Nested>(
 
 /// This expression and `?`.
 fn tried<N: Nested>(expr: Box<Expr<N>>, input: &mut ParseBuffer<'_>) -> Parsed<Box<Expr<N>>>
-    ensures reads { Computes IsSyntax (λ e. N.Trees.expr_syntax e.value) (linked (behind_it Try) (N.Trees.expr_syntax expr.value) (parse_form (punctuation question) input.old)) result input.new }
+    ensures reads { Computes IsSyntax (λ e. N.Trees.expr_syntax e.value) (linked (after_it Try) (N.Trees.expr_syntax expr.value) (parse_form (punctuation question) input.old)) result input.new }
     ensures moved { Moved input.old result input.new }
 {
     let question_token = input.read()?;

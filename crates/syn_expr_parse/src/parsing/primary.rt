@@ -5,7 +5,7 @@ ghost use Rattle.syn_grammar.specs.Shape.{Break, Continue, Macro, Path, Return};
 ghost use Rattle.syn_grammar.specs.Values.{new};
 ghost use Rattle.syn_grammar.specs.Run.{wrap};
 ghost use Rattle.syn_lower.specs.Parsing.{parse_rule, parse_form, Computes, Parses, Moved, MayBelow, IsSyntax};
-ghost use Rattle.syn_expr_parse.specs.Primary.{behind_path, break_form, continue_form, path_out, return_form};
+ghost use Rattle.syn_expr_parse.specs.Primary.{after_path, break_form, continue_form, path_out, return_form};
 ghost use Rattle.syn_expr_parse.specs.Primary as primaries;
 ghost use Rattle.syn_expr_parse.specs.Spots.{within};
 ghost use Rattle.syn_expr_parse.specs.Then.{then_by};
@@ -173,7 +173,7 @@ fn lone_path<N: Nested>(input: &mut ParseBuffer<'_>) -> Parsed<Box<Expr<N>>>
 /// A path, followed by the braces of a struct literal or without them.
 fn path_or_literal<N: Nested>(nested: &N, input: &mut ParseBuffer<'_>) -> Parsed<Box<Expr<N>>>
     requires { MayBelow N.may nested.now input.old }
-    ensures reads { Computes IsSyntax (λ e. N.Trees.expr_syntax e.value) (then_by (parse_rule rules.path_as_expression input.old) behind_path) result input.new }
+    ensures reads { Computes IsSyntax (λ e. N.Trees.expr_syntax e.value) (then_by (parse_rule rules.path_as_expression input.old) after_path) result input.new }
     ensures moved { Moved input.old result input.new }
 {
     let (qself, path) = path_as_expression(input)?;

@@ -14,7 +14,7 @@ ghost use Rattle.syn_lower.specs.Parsing.{of, rule, meaning_of_rule, parse_rule,
 ghost use Rattle.syn_expr_parse.specs.Parts.{block_after_else, diverging as diverging_syntax, statements_of};
 ghost use Rattle.syn_expr_parse.specs.Listed.{is_listed};
 ghost use Rattle.syn_expr_parse.specs.Spines.{spine_shown};
-ghost use Rattle.syn_expr_parse.specs.StatementForms.{behind_attributes, behind_block, crate_item, crate_macro_statement as crate_macro_statement_by, diverges, ending, expression_statement as expression_statement_by, item_next, item_statement, local_init_form, local_value as local_value_by, macro_statement as macro_statement_by, next_statement, statement_by, terminator as terminator_by};
+ghost use Rattle.syn_expr_parse.specs.StatementForms.{after_attributes, following_block, crate_item, crate_macro_statement as crate_macro_statement_by, diverges, ending, expression_statement as expression_statement_by, item_next, item_statement, local_init_form, local_value as local_value_by, macro_statement as macro_statement_by, next_statement, statement_by, terminator as terminator_by};
 ghost use Rattle.syn_recognize.specs.Trailing.{ends_by};
 
 use crate::parsing::blocks::{block_like, else_block};
@@ -116,9 +116,9 @@ fn at_crate_item(input: &ParseBuffer<'_>) -> Parsed<bool>
     if !at_crate_macro(input) {
         return Ok(false);
     }
-    let mut behind = input.fork();
-    match macro_invocation(&mut behind) {
-        Ok(_) => Ok(at_postfix_mark(&behind)),
+    let mut following = input.fork();
+    match macro_invocation(&mut following) {
+        Ok(_) => Ok(at_postfix_mark(&following)),
         Err(Refusal::Memory(at)) => Err(Refusal::Memory(at)),
         Err(Refusal::Syntax { .. }) => Ok(false),
     }
@@ -141,7 +141,7 @@ fn statement_after<N: Nested>(
 ) -> Parsed<Stmt<N>>
     requires may { MayHere N.may nested.now input.old }
     requires outer { all_attributes_syntax attrs.items ≡ attributes_syntax attrs.items }
-    ensures reads { Computes IsSyntax N.Trees.stmt_syntax (behind_attributes (is_listed place) (attributes_syntax attrs.items) input.old) result input.new }
+    ensures reads { Computes IsSyntax N.Trees.stmt_syntax (after_attributes (is_listed place) (attributes_syntax attrs.items) input.old) result input.new }
     ensures moved { Moved input.old result input.new }
 {
     if at_crate_macro(input) {
@@ -234,7 +234,7 @@ fn statement_of_block<N: Nested>(
     requires may { MayHere N.may nested.now input.old }
     requires outer { all_attributes_syntax attrs.items ≡ attributes_syntax attrs.items }
     requires shown { spine_shown (N.Trees.expr_syntax expr.value) ≡ true }
-    ensures reads { Computes IsSyntax N.Trees.stmt_syntax (behind_block (is_listed place) braces (attributes_syntax attrs.items) (N.Trees.expr_syntax expr.value) input.old) result input.new }
+    ensures reads { Computes IsSyntax N.Trees.stmt_syntax (following_block (is_listed place) braces (attributes_syntax attrs.items) (N.Trees.expr_syntax expr.value) input.old) result input.new }
     ensures kept { Kept input.old result input.new }
 {
     if input.peek::<Semi>() {

@@ -29,9 +29,9 @@ fn ends_with_braces(tokens: &TokenStream) -> bool
 {
     let mut rest = tokens.cursor();
     let mut braces = false;
-    'trees: while let Some((tree, behind)) = rest.split() {
+    'trees: while let Some((tree, following)) = rest.split() {
         braces = is_in_braces(&tree);
-        rest = behind;
+        rest = following;
     }
     braces
 }

@@ -101,12 +101,12 @@ fn after_impl(marks: ImplMarks, input: &mut ParseBuffer<'_>) -> Parsed<ItemImpl>
     let is_odd = types.trait_.is_none() && input.peek::<For>();
     match impl_end(marks, generics, types, input) {
         Ok(item) => Ok(item),
-        Err(refusal) => Err(told(refusal, is_odd, first)),
+        Err(refusal) => Err(reported(refusal, is_odd, first)),
     }
 }
 
 /// The refusal of an impl: if its first type is no path of a trait, and `for` follows it, it is at the beginning of that type.
-fn told(refusal: Refusal, is_odd: bool, first: Span) -> Refusal
+fn reported(refusal: Refusal, is_odd: bool, first: Span) -> Refusal
     ensures { IsSyntax result → IsSyntax refusal }
 {
     if !is_odd {
@@ -161,7 +161,7 @@ fn implemented(input: &mut ParseBuffer<'_>) -> Parsed<ImplTypes>
         return after_bang(input);
     }
     if input.peek::<ModulePath>() {
-        return behind_path(input);
+        return after_path(input);
     }
     let self_ty = input.read()?;
     Ok(ImplTypes {
@@ -213,7 +213,7 @@ fn for_after_bang(bang_token: Not, input: &mut ParseBuffer<'_>) -> Parsed<For>
 
 /// A path as a trait's, followed by `for` and a self type; or as the self type.
 #[tactic(auto, using(crate::proofs::FirstTypes::path_refused, crate::proofs::FirstTypes::plain_read, crate::proofs::FirstTypes::trait_for_refused, crate::proofs::FirstTypes::trait_type_refused, crate::proofs::FirstTypes::trait_read))]
-fn behind_path(input: &mut ParseBuffer<'_>) -> Parsed<ImplTypes>
+fn after_path(input: &mut ParseBuffer<'_>) -> Parsed<ImplTypes>
     ensures reads { ReadsBefore IsSyntax types_before (λ f. wrap Right (wrap Left (path_then f input.old))) result input.new }
     ensures moved { Moved input.old result input.new }
 {

@@ -22,7 +22,7 @@ mod traits;
 use super::Item;
 use crate::pieces::kept_tokens;
 use crate::simple::{macro_as_item_rest, module};
-use functions::{after_extern, after_unsafe, behind_const, function_or_kept};
+use functions::{after_extern, after_unsafe, following_const, function_or_kept};
 use impls::{bare_impl, default_impl};
 use kept::{static_or_kept, type_or_kept, use_or_kept};
 use syn_lower::Attribute;
@@ -97,7 +97,7 @@ impl Read for Item {
     fn read(input: &mut ParseBuffer<'_>) -> Parsed<Item> {
         let start = input.fork();
         let attrs = outer_attributes(input)?;
-        match item_behind(attrs, input) {
+        match item_after(attrs, input) {
             Ok(Some(item)) => Ok(item),
             Ok(None) => Ok(Item::Verbatim(kept_tokens(Rule::ITEM, &start, input)?)),
             Err(refusal) => Err(refusal),
@@ -107,13 +107,13 @@ impl Read for Item {
 
 /// An item, after its attributes; `None` where it is kept verbatim.
 #[tactic(auto, using(crate::proofs::ItemPlans::visibility_refused))]
-fn item_behind(attrs: Vec<Attribute>, input: &mut ParseBuffer<'_>) -> Parsed<Option<Item>>
+fn item_after(attrs: Vec<Attribute>, input: &mut ParseBuffer<'_>) -> Parsed<Option<Item>>
     requires outer { all_attributes_syntax attrs.items ≡ attributes_syntax attrs.items }
-    ensures follows { (ts : Stream) → Follows IsSyntax syntax_of_Item rules.kept_item ts (run_plan (plan.item_behind (attributes_syntax attrs.items)) rules.kept_item ts input.old) result input.new }
+    ensures follows { (ts : Stream) → Follows IsSyntax syntax_of_Item rules.kept_item ts (run_plan (plan.item_after (attributes_syntax attrs.items)) rules.kept_item ts input.old) result input.new }
 {
     let place = place_of(input);
     let vis = input.read()?;
-    behind_visibility(Begun { place, attrs, vis }, input)
+    after_visibility(Begun { place, attrs, vis }, input)
 }
 
 /// The span of the next token.
@@ -131,7 +131,7 @@ fn place_of(input: &ParseBuffer<'_>) -> Place
 
 /// An item, after its visibility; `None` where it is kept verbatim.
 #[tactic(auto, using(crate::proofs::ItemPlans::struct_refused, crate::proofs::ItemPlans::enum_refused, crate::proofs::ItemPlans::union_refused, crate::proofs::ItemPlans::type_follows, crate::proofs::ItemPlans::static_follows, crate::proofs::ItemPlans::use_follows, crate::proofs::ItemPlans::mod_refused))]
-fn behind_visibility(begun: Begun, input: &mut ParseBuffer<'_>) -> Parsed<Option<Item>>
+fn after_visibility(begun: Begun, input: &mut ParseBuffer<'_>) -> Parsed<Option<Item>>
     requires outer { all_attributes_syntax begun.attrs.items ≡ attributes_syntax begun.attrs.items }
     ensures follows { (ts : Stream) → Follows IsSyntax syntax_of_Item rules.kept_item ts (run_plan (after_place begun) rules.kept_item ts input.old) result input.new }
 {
@@ -188,7 +188,7 @@ fn other_kinds(begun: Begun, input: &mut ParseBuffer<'_>) -> Parsed<Option<Item>
         return after_unsafe(begun, input);
     }
     if input.peek::<Const>() {
-        return behind_const(begun, input);
+        return following_const(begun, input);
     }
     if input.peek::<Impl>() {
         return bare_impl(begun, input);

@@ -15,7 +15,7 @@ ghost use Rattle.syn_lower.specs.Generics.{where_part};
 ghost use Rattle.syn_lower.specs.Parsing.{of, rule, list_of, meaning_of_rule, parse_form, parse_rule, Computes, Kept, Moved, itself, IsSyntax};
 ghost use Rattle.syn_tree.specs.Derive.{item_of};
 ghost use Rattle.syn_tree.specs.Restriction.{syntax_of_Visibility};
-ghost use Rattle.syn_item.specs.ItemForms.{alias_end_form, alias_syntax, aliased_form, aliased_syntax, bounds_end_form, bounds_end_syntax, place_by, type_form, TellsAlias};
+ghost use Rattle.syn_item.specs.ItemForms.{alias_end_form, alias_syntax, aliased_form, aliased_syntax, bounds_end_form, bounds_end_syntax, place_by, type_form, SettlesAlias};
 ghost use Rattle.syn_item.specs.Simple.{place_aside, syntax_of_WhereClausePlacement};
 
 use crate::simple::{ItemTraitAlias, ItemType, WhereClausePlacement};
@@ -156,7 +156,7 @@ struct Clauses {
 /// `=` and a type, with a where clause before them, after them, or both.
 #[tactic(auto, using(crate::proofs::Aliases::alias_known, crate::proofs::Aliases::place_left))]
 fn alias_clauses(input: &mut ParseBuffer<'_>) -> Parsed<Clauses>
-    ensures told { TellsAlias IsSyntax (parse_form aliased_form input.old) result input.new }
+    ensures reported { SettlesAlias IsSyntax (parse_form aliased_form input.old) result input.new }
     ensures place { IfOk result (λ c. place_aside (syntax_of_WhereClausePlacement (place_by c.is_late)) (pick c.is_late (where_part c.late) (where_part c.early)) ≡ Unshown Nothing) }
     ensures moved { Moved input.old result input.new }
 {

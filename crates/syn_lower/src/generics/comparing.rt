@@ -4,7 +4,7 @@ ghost use Rattle.syn_grammar.specs.Same.{same_bool, same_syntax};
 ghost use Rattle.syn_tokens.specs.InOrder.{in_order};
 ghost use Rattle.syn_tokens.specs.Kinds.{comma_syntax};
 ghost use Rattle.syn_tokens.specs.Listing.{list_of};
-ghost use Rattle.syn_lower.specs.Generics.{GtPresent, LtPresent, as_row, clause_of, param_of, stands, syntax_of_GenericParam};
+ghost use Rattle.syn_lower.specs.Generics.{GtPresent, LtPresent, as_row, clause_of, param_of, present, syntax_of_GenericParam};
 ghost use Rattle.syn_lower.specs.Parts.{first};
 
 use crate::{ConstParam, GenericParam, Generics, LifetimeParam, TypeParam, WhereClause};
@@ -122,7 +122,7 @@ impl Generics {
 
 /// Whether both have a `<`, or neither has one.
 fn both_have_lt(lt_token: Option<Lt>, other: Option<Lt>) -> bool
-    ensures same { result ≡ same_bool (stands lt_token) (stands other) }
+    ensures same { result ≡ same_bool (present lt_token) (present other) }
     ensures one { LtPresent lt_token }
     ensures other { LtPresent other }
 {
@@ -134,7 +134,7 @@ fn both_have_lt(lt_token: Option<Lt>, other: Option<Lt>) -> bool
 
 /// Whether both have a `>`, or neither has one.
 fn both_have_gt(gt_token: Option<Gt>, other: Option<Gt>) -> bool
-    ensures same { result ≡ same_bool (stands gt_token) (stands other) }
+    ensures same { result ≡ same_bool (present gt_token) (present other) }
     ensures one { GtPresent gt_token }
     ensures other { GtPresent other }
 {

@@ -60,7 +60,7 @@ pub(crate) fn split_punct<'a>(cursor: &Cursor<'a>) -> Option<(Punct, Cursor<'a>)
 pub(crate) fn split_last<'a>(cursor: &Cursor<'a>, c: char) -> Option<(Span, Cursor<'a>)>
     ensures found { MatchOption result (spelled (c ∷ []) cursor.now ≡ None)
         (λ p. spelled (c ∷ []) cursor.now ≡ Some ((c, at p.0) ∷ [], p.1)) }
-    ensures behind { IfSome result (λ p. left p.1 < left cursor.now) }
+    ensures following { IfSome result (λ p. left p.1 < left cursor.now) }
 {
     let (punct, rest) = split_punct(cursor)?;
     if punct.character() == c {
@@ -76,7 +76,7 @@ pub(crate) fn split_last<'a>(cursor: &Cursor<'a>, c: char) -> Option<(Span, Curs
 pub(crate) fn split_joint<'a>(cursor: &Cursor<'a>, c: char) -> Option<(Span, Cursor<'a>)>
     ensures found { MatchOption result ((e : ℕ) (l : Text) → spelled (c ∷ e ∷ l) cursor.now ≡ None)
         (λ p. (e : ℕ) (l : Text) → spelled (c ∷ e ∷ l) cursor.now ≡ add_char c (at p.0) (spelled (e ∷ l) p.1)) }
-    ensures behind { IfSome result (λ p. left p.1 < left cursor.now) }
+    ensures following { IfSome result (λ p. left p.1 < left cursor.now) }
 {
     let (punct, rest) = split_punct(cursor)?;
     if punct.character() == c && punct.spacing == Spacing::Joint {
@@ -96,7 +96,7 @@ pub(crate) fn split_group<'a>(
         (λ p. take_group (delimiter_of delimiter) cursor.now
         ≡ Some (record { opening = at p.0.opening; closing = at p.0.closing; content = p.0.content; rest = p.1 })) }
     ensures inside { IfSome result (λ p. left p.0.content < left cursor.now) }
-    ensures behind { IfSome result (λ p. left p.1 < left cursor.now) }
+    ensures following { IfSome result (λ p. left p.1 < left cursor.now) }
 {
     let (next, rest) = cursor.split()?;
     match next {

@@ -47,7 +47,7 @@ impl<K: WordKind> Read for Word<K> {
 /// The parser of a mark of `N` characters.
 pub trait ReadMark<const N: usize>: MarkKind<N> {
     /// Whether the mark is next.
-    fn stands(input: &ParseBuffer<'_>) -> bool
+    fn present(input: &ParseBuffer<'_>) -> bool
         ensures { result ≡ sees (at_mark Self.text) input.now };
 
     /// Parses the mark, and returns the spans of its characters.
@@ -57,7 +57,7 @@ pub trait ReadMark<const N: usize>: MarkKind<N> {
 }
 
 impl<K: OneCharacter> ReadMark<1> for K {
-    fn stands(input: &ParseBuffer<'_>) -> bool {
+    fn present(input: &ParseBuffer<'_>) -> bool {
         input.is_at_mark1(K::character())
     }
 
@@ -67,7 +67,7 @@ impl<K: OneCharacter> ReadMark<1> for K {
 }
 
 impl<K: TwoCharacters> ReadMark<2> for K {
-    fn stands(input: &ParseBuffer<'_>) -> bool {
+    fn present(input: &ParseBuffer<'_>) -> bool {
         let (c, d) = K::characters();
         input.is_at_mark2(c, d)
     }
@@ -79,7 +79,7 @@ impl<K: TwoCharacters> ReadMark<2> for K {
 }
 
 impl<K: ThreeCharacters> ReadMark<3> for K {
-    fn stands(input: &ParseBuffer<'_>) -> bool {
+    fn present(input: &ParseBuffer<'_>) -> bool {
         let (c, d, e) = K::characters();
         input.is_at_mark3(c, d, e)
     }
@@ -96,7 +96,7 @@ impl<K: ReadMark<N>, const N: usize> Peek for Mark<K, N> {
     ghost fault = { expected K.text };
 
     fn peek(input: &ParseBuffer<'_>) -> bool {
-        K::stands(input)
+        K::present(input)
     }
 
     fn expected() -> &'static str {

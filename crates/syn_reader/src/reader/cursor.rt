@@ -4,7 +4,7 @@ ghost use Rattle.std.specs.Char.{encode_utf8, is_not_whitespace};
 ghost use Rattle.std.specs.Str.{IsCharBoundary};
 ghost use Rattle.std.specs.Fn.{AlwaysReturns};
 ghost use Rattle.syn_reader.specs.Scanning.{first_of, begins_with, drop_while};
-ghost use Rattle.syn_reader.specs.Spelling.{Stands, IsBlank};
+ghost use Rattle.syn_reader.specs.Spelling.{Present, IsBlank};
 
 use syn_tokens::span::Span;
 
@@ -48,7 +48,7 @@ impl<'a> Cursor<'a> {
         ensures onward { self.old.offset ≤ self.new.offset }
         ensures fits { self.new.offset < 2 ^ 64 }
         ensures rest { drop self.new.offset self.old.text.now ≡ rest.now }
-        ensures stands { (front : List ℕ) → drop self.old.offset self.old.text.now ≡ front ++ rest.now → Stands self.old.text.now front self.old.offset self.new.offset }
+        ensures present { (front : List ℕ) → drop self.old.offset self.old.text.now ≡ front ++ rest.now → Present self.old.text.now front self.old.offset self.new.offset }
     {
         self.offset = self.text.len() - rest.len();
     }
@@ -61,7 +61,7 @@ impl<'a> Cursor<'a> {
         ensures fits { OnSome result (self.new.offset < 2 ^ 64) }
         ensures drops { left self.new ≡ drop 1 (left self.old) }
         ensures left { MatchOption result (left self.old ≡ []) (λ c. left self.old ≡ c ∷ left self.new) }
-        ensures stands { MatchOption result (IsBlank self.old.text.now self.old.offset (length self.old.text.now)) (λ c. Stands self.old.text.now (encode_utf8 c) self.old.offset self.new.offset) }
+        ensures present { MatchOption result (IsBlank self.old.text.now self.old.offset (length self.old.text.now)) (λ c. Present self.old.text.now (encode_utf8 c) self.old.offset self.new.offset) }
     {
         let mut characters = self.rest().chars();
         let first = characters.next()?;
@@ -111,7 +111,7 @@ impl<'a> Cursor<'a> {
     pub(super) fn text_since(&self, start: &Cursor<'a>) -> &'a str
         requires text { self.now.text ≡ start.now.text }
         requires earlier { start.now.offset ≤ self.now.offset }
-        ensures { Stands self.now.text.now result.now start.now.offset self.now.offset }
+        ensures { Present self.now.text.now result.now start.now.offset self.now.offset }
     {
         &self.text[start.offset..self.offset]
     }

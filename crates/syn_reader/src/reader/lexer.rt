@@ -9,7 +9,7 @@ ghost use Rattle.syn_tokens.specs.Punct.{is_joint, is_punct_character};
 ghost use Rattle.syn_reader.specs.Scanning.{first_passes, drop_while, literal_at, Absent, after_word, begins_comment, begins_raw_name};
 ghost use Rattle.syn_reader.specs.Places.{left};
 ghost use Rattle.syn_reader.specs.Lexemes.{IsDelimiter};
-ghost use Rattle.syn_reader.specs.Spelling.{Stands};
+ghost use Rattle.syn_reader.specs.Spelling.{Present};
 ghost use Rattle.syn_reader.specs.Refusals.{NoDelimiter, IsLexicalFault};
 
 use crate::reader::cursor::Cursor;
@@ -60,10 +60,10 @@ impl<'a> Lexer<'a> {
     /// The lexeme from `start`, whose first character is consumed.
     fn lexeme(&mut self, start: &Cursor<'a>, first: char) -> Result<Lexeme<'a>>
         requires past { IsPast first start.now self.old.cursor }
-        requires first { Stands start.now.text.now (encode_utf8 first) start.now.offset self.old.cursor.offset }
+        requires first { Present start.now.text.now (encode_utf8 first) start.now.offset self.old.cursor.offset }
         requires no_space { is_not_whitespace first ≡ true }
         ensures onward { Onward self.old.cursor self.new.cursor }
-        ensures stands { MatchResult result (λ l. IsLexemeFrom start.now.text.now start.now.offset l self.new.cursor.offset) (IsLexicalFault start.now.text.now start.now.offset) }
+        ensures present { MatchResult result (λ l. IsLexemeFrom start.now.text.now start.now.offset l self.new.cursor.offset) (IsLexicalFault start.now.text.now start.now.offset) }
     {
         if first.is_ascii_digit() {
             return Ok(self.number(start, first));
@@ -89,12 +89,12 @@ impl<'a> Lexer<'a> {
     /// The character of a mark from `start`, which is consumed.
     fn mark(&self, start: &Cursor<'a>, character: char) -> Lexeme<'a>
         requires past { IsPast character start.now self.now.cursor }
-        requires first { Stands start.now.text.now (encode_utf8 character) start.now.offset self.now.cursor.offset }
+        requires first { Present start.now.text.now (encode_utf8 character) start.now.offset self.now.cursor.offset }
         requires mark { is_punct_character character ≡ true }
         requires apart { (character == 39) ≡ false }
         requires no_digit { is_ascii_digit character ≡ false }
         requires no_comment { begins_comment (left start.now) ≡ false }
-        ensures stands { IsLexemeFrom start.now.text.now start.now.offset result self.now.cursor.offset }
+        ensures present { IsLexemeFrom start.now.text.now start.now.offset result self.now.cursor.offset }
     {
         let span = self.cursor.span_since(start);
         Lexeme::Punct(Punct::new(character, self.spacing(), span))
@@ -106,13 +106,13 @@ impl<'a> Lexer<'a> {
         requires may_start { may_start first ≡ true }
         requires no_digit { is_ascii_digit first ≡ false }
         ensures onward { Onward self.old.cursor self.new.cursor }
-        ensures stands { MatchResult result (λ l. IsLexemeFrom start.now.text.now start.now.offset l self.new.cursor.offset) (IsLexicalFault start.now.text.now start.now.offset) }
+        ensures present { MatchResult result (λ l. IsLexemeFrom start.now.text.now start.now.offset l self.new.cursor.offset) (IsLexicalFault start.now.text.now start.now.offset) }
     {
         if first == 'r' {
-            return self.behind_r(start);
+            return self.following_r(start);
         }
         if first == 'b' {
-            return self.behind_b(start);
+            return self.following_b(start);
         }
         if first == 'c' {
             return self.prefixed(LitKind::CStr, start, first);
@@ -121,10 +121,10 @@ impl<'a> Lexer<'a> {
     }
 
     /// The lexeme that starts with `r`, which is consumed: a raw string, a raw identifier, or another identifier.
-    fn behind_r(&mut self, start: &Cursor<'a>) -> Result<Lexeme<'a>>
+    fn following_r(&mut self, start: &Cursor<'a>) -> Result<Lexeme<'a>>
         requires past { IsPast 114 start.now self.old.cursor }
         ensures onward { Onward self.old.cursor self.new.cursor }
-        ensures stands { MatchResult result (λ l. IsLexemeFrom start.now.text.now start.now.offset l self.new.cursor.offset) (IsLexicalFault start.now.text.now start.now.offset) }
+        ensures present { MatchResult result (λ l. IsLexemeFrom start.now.text.now start.now.offset l self.new.cursor.offset) (IsLexicalFault start.now.text.now start.now.offset) }
     {
         if begins_raw_string(self.cursor) {
             self.raw_string(LitKind::Str, start)
@@ -136,10 +136,10 @@ impl<'a> Lexer<'a> {
     }
 
     /// The lexeme that starts with `b`, which is consumed: a byte, a byte string, or an identifier.
-    fn behind_b(&mut self, start: &Cursor<'a>) -> Result<Lexeme<'a>>
+    fn following_b(&mut self, start: &Cursor<'a>) -> Result<Lexeme<'a>>
         requires past { IsPast 98 start.now self.old.cursor }
         ensures onward { Onward self.old.cursor self.new.cursor }
-        ensures stands { MatchResult result (λ l. IsLexemeFrom start.now.text.now start.now.offset l self.new.cursor.offset) (IsLexicalFault start.now.text.now start.now.offset) }
+        ensures present { MatchResult result (λ l. IsLexemeFrom start.now.text.now start.now.offset l self.new.cursor.offset) (IsLexicalFault start.now.text.now start.now.offset) }
     {
         if begins_byte(self.cursor) {
             self.byte(start)
@@ -154,7 +154,7 @@ impl<'a> Lexer<'a> {
         requires absent { literal_at (left start.now) ≡ Absent }
         requires raw { begins_raw_name (left self.old.cursor) ≡ true }
         ensures onward { Onward self.old.cursor self.new.cursor }
-        ensures stands { IsLexemeFrom start.now.text.now start.now.offset result self.new.cursor.offset }
+        ensures present { IsLexemeFrom start.now.text.now start.now.offset result self.new.cursor.offset }
     {
         self.cursor.bump();
         self.cursor.bump();
@@ -169,7 +169,7 @@ impl<'a> Lexer<'a> {
         requires absent { literal_at (left start.now) ≡ Absent }
         requires word { (c : ℕ) × (rest : List ℕ) × (left start.now ≡ c ∷ rest) × (drop_while is_xid_continue (left self.old.cursor) ≡ after_word c rest) }
         ensures onward { Onward self.old.cursor self.new.cursor }
-        ensures stands { IsLexemeFrom start.now.text.now start.now.offset result self.new.cursor.offset }
+        ensures present { IsLexemeFrom start.now.text.now start.now.offset result self.new.cursor.offset }
     {
         self.cursor.skip_while(is_xid_continue);
         Lexeme::Ident(self.cursor.text_since(start), self.cursor.span_since(start))

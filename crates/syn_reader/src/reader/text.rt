@@ -6,7 +6,7 @@ ghost use Rattle.syn_tokens.specs.Delimiters.{delimiter_of};
 ghost use Rattle.syn_tokens.specs.Punct.{is_joint};
 ghost use Rattle.syn_reader.specs.Spelling.{opening_delimiter, closing_delimiter};
 ghost use Rattle.syn_reader.specs.Texts.{gap, text_of};
-ghost use Rattle.syn_reader.specs.EntryTexts.{entry_text, direct_behind};
+ghost use Rattle.syn_reader.specs.EntryTexts.{entry_text, direct_after};
 
 use std::alloc::AllocError;
 use syn_tokens::delimiter::Delimiter;
@@ -44,7 +44,7 @@ impl Writer {
     /// Prints an entry; the delimiters of an invisible group are not printed.
     fn entry(&mut self, entry: &Entry) -> std::result::Result<(), AllocError>
         ensures text { OnOk result (string_bytes self.new.text ≡ string_bytes self.old.text ++ entry_text self.old.glued entry.now) }
-        ensures glued { OnOk result (self.new.glued ≡ direct_behind self.old.glued entry.now) }
+        ensures glued { OnOk result (self.new.glued ≡ direct_after self.old.glued entry.now) }
     {
         match entry.token() {
             Token::Ident(ident) => self.word(ident.text()),

@@ -341,7 +341,7 @@ static LOOP_EXPRESSION_1: Form = Form::Shaped(
         &Form::Then(
             &Form::Rule(Rule::PATTERN),
             &Form::Then(
-                &Form::TokenAt(Token::Word(Word::In), Place::Behind),
+                &Form::TokenAt(Token::Word(Word::In), Place::Following),
                 &Form::Then(
                     &Form::Rule(Rule::WHOLE_EXPRESSION_HEAD),
                     &Form::Rule(Rule::BODY),

@@ -22,7 +22,7 @@ static POSTFIXES: Form = Form::When(
     Look::Group(Delimiter::Paren),
     &Form::Then(
         &Form::Shaped(
-            Shape::BehindIt(Variant::Call),
+            Shape::AfterIt(Variant::Call),
             &Form::Inside(Delimiter::Paren, &Form::Rule(Rule::EXPRESSIONS)),
         ),
         &Form::Rule(Rule::POSTFIXES),
@@ -47,7 +47,7 @@ static POSTFIXES_1: Form = Form::When(
 static POSTFIXES_2: Form = Form::When(
     Look::Mark(Mark::Question),
     &Form::Then(
-        &Form::Shaped(Shape::BehindIt(Variant::Try), &Form::Mark(Mark::Question)),
+        &Form::Shaped(Shape::AfterIt(Variant::Try), &Form::Mark(Mark::Question)),
         &Form::Rule(Rule::POSTFIXES),
     ),
     &Form::Part(Part::POSTFIXES_1),
@@ -58,7 +58,7 @@ static POSTFIXES_3: Form = Form::When(
     Look::Group(Delimiter::Bracket),
     &Form::Then(
         &Form::Shaped(
-            Shape::BehindIt(Variant::Index),
+            Shape::AfterIt(Variant::Index),
             &Form::Inside(Delimiter::Bracket, &Form::Rule(Rule::WHOLE_EXPRESSION)),
         ),
         &Form::Rule(Rule::POSTFIXES),

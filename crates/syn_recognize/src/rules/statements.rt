@@ -266,7 +266,7 @@ static LOCAL_2: Form = Form::Then(
         ),
         &Form::Empty,
     ),
-    &Form::MarkAt(Mark::Semi, Place::Behind),
+    &Form::MarkAt(Mark::Semi, Place::Following),
 );
 
 /// The form of the rule at this place.

@@ -47,7 +47,7 @@ fn longer_ones_are_refused(rt: HostRuntime) {
 }
 
 /// So many links after parentheses with half as many as fit.
-fn behind_half(alloc: Global, count: usize) -> Result<String, AllocError> {
+fn after_half(alloc: Global, count: usize) -> Result<String, AllocError> {
     let inside = repeated(alloc, most() / 2, "", "a", " + a")?;
     let group = repeated(alloc, 1, "(", inside.as_str(), ")")?;
     repeated(alloc, count, "", group.as_str(), ".b")
@@ -56,9 +56,9 @@ fn behind_half(alloc: Global, count: usize) -> Result<String, AllocError> {
 #[test]
 fn chains_in_chains(rt: HostRuntime) {
     let left = most().saturating_sub(most() / 2);
-    let text = value(&rt, behind_half(rt.alloc(), left));
+    let text = value(&rt, after_half(rt.alloc(), left));
     assert_read_again::<Expr>(&rt, rt.alloc(), text.as_str());
-    let text = value(&rt, behind_half(rt.alloc(), left.saturating_add(1)));
+    let text = value(&rt, after_half(rt.alloc(), left.saturating_add(1)));
     let start = text.len().saturating_sub(".b".len());
     assert_too_deep::<Expr>(&rt, rt.alloc(), text.as_str(), start);
 }
@@ -80,13 +80,13 @@ const STATEMENTS: &[(&str, &str, &str)] = &[
 
 #[test]
 fn what_ends_a_chain(rt: HostRuntime) {
-    for (before, part, behind) in APART {
-        let text = value(&rt, repeated(rt.alloc(), 2_000, part, behind, ""));
+    for (before, part, following) in APART {
+        let text = value(&rt, repeated(rt.alloc(), 2_000, part, following, ""));
         let whole = value(&rt, repeated(rt.alloc(), 1, before, text.as_str(), ""));
         let _tree: Expr = tree_of(&rt, rt.alloc(), whole.as_str());
     }
-    for (before, part, behind) in STATEMENTS {
-        let text = value(&rt, repeated(rt.alloc(), 2_000, part, behind, ""));
+    for (before, part, following) in STATEMENTS {
+        let text = value(&rt, repeated(rt.alloc(), 2_000, part, following, ""));
         let whole = value(&rt, repeated(rt.alloc(), 1, before, text.as_str(), ""));
         let _tree: Block = tree_of(&rt, rt.alloc(), whole.as_str());
     }
@@ -128,7 +128,7 @@ fn commas_after_labels(rt: HostRuntime) {
 
 /// A `<` after a `:` may open generic arguments, which a comma doesn't end.
 #[test]
-fn a_comma_behind_an_angle(rt: HostRuntime) {
+fn a_comma_after_an_angle(rt: HostRuntime) {
     let part = "a::b < c, ";
     let text = value(&rt, repeated(rt.alloc(), 2_000, part, "a]", ""));
     let whole = value(&rt, repeated(rt.alloc(), 1, "[", text.as_str(), ""));

@@ -19,11 +19,11 @@ pub fn repeated(
     depth: usize,
     before: &str,
     inside: &str,
-    behind: &str,
+    following: &str,
 ) -> Result<String, AllocError> {
     let mut text = before.repeat(alloc, depth)?;
     text.push_str(inside)?;
-    text.push_str(behind.repeat(alloc, depth)?.as_str())?;
+    text.push_str(following.repeat(alloc, depth)?.as_str())?;
     Ok(text)
 }
 
@@ -67,10 +67,10 @@ pub fn assert_read_again<T: Parse + ToTokens + TryClone + PartialEq + Drop>(
 
 #[test]
 fn types(rt: HostRuntime) {
-    for (before, behind) in AROUND {
+    for (before, following) in AROUND {
         let text = value(
             &rt,
-            repeated(rt.alloc(), around(TYPE), before, "u8", behind),
+            repeated(rt.alloc(), around(TYPE), before, "u8", following),
         );
         assert_read_again::<Type>(&rt, rt.alloc(), text.as_str());
     }
@@ -104,19 +104,19 @@ fn assert_limited<T: Parse + Drop>(
     rt: &impl Abort,
     alloc: Global,
     kib: u32,
-    (before, inside, behind): (&str, &str, &str),
+    (before, inside, following): (&str, &str, &str),
 ) {
     let start = most(kib).saturating_mul(before.len());
     for depth in [most(kib), 10_000] {
-        let text = value(rt, repeated(alloc, depth, before, inside, behind));
+        let text = value(rt, repeated(alloc, depth, before, inside, following));
         assert_too_deep::<T>(rt, alloc, text.as_str(), start);
     }
 }
 
 #[test]
 fn deeper_types_are_refused(rt: HostRuntime) {
-    for (before, behind) in AROUND {
-        assert_limited::<Type>(&rt, rt.alloc(), TYPE, (before, "u8", behind));
+    for (before, following) in AROUND {
+        assert_limited::<Type>(&rt, rt.alloc(), TYPE, (before, "u8", following));
     }
 }
 
@@ -134,17 +134,17 @@ const AROUND_EXPRESSIONS: &[(&str, &str)] = &[
 
 #[test]
 fn expressions(rt: HostRuntime) {
-    for (before, behind) in AROUND_EXPRESSIONS {
+    for (before, following) in AROUND_EXPRESSIONS {
         let depth = around(EXPRESSION);
-        let text = value(&rt, repeated(rt.alloc(), depth, before, "a", behind));
+        let text = value(&rt, repeated(rt.alloc(), depth, before, "a", following));
         assert_read_again::<Expr>(&rt, rt.alloc(), text.as_str());
     }
 }
 
 #[test]
 fn deeper_expressions_are_refused(rt: HostRuntime) {
-    for (before, behind) in AROUND_EXPRESSIONS {
-        assert_limited::<Expr>(&rt, rt.alloc(), EXPRESSION, (before, "a", behind));
+    for (before, following) in AROUND_EXPRESSIONS {
+        assert_limited::<Expr>(&rt, rt.alloc(), EXPRESSION, (before, "a", following));
     }
 }
 

@@ -94,11 +94,11 @@ impl StreamBuilder {
     pub fn new(alloc: Global) -> StreamBuilder
         ensures { result ≡ record { before = end; open_groups = []; stream = end } }
     {
-        StreamBuilder::behind(TokenStream::new(alloc))
+        StreamBuilder::following(TokenStream::new(alloc))
     }
 
     /// Begins with this stream, and appends to it. It takes over the stream without copying, in constant time.
-    pub(crate) fn behind(stream: TokenStream) -> StreamBuilder
+    pub(crate) fn following(stream: TokenStream) -> StreamBuilder
         ensures { result ≡ record { before = stream; open_groups = []; stream = stream } }
     {
         let alloc = stream.alloc();

@@ -16,30 +16,30 @@ use crate::stream::tree::{Group, TokenTree};
 use std::alloc::{AllocError, Global};
 
 /// Appends copies of these entries to others; if memory is refused, some of them may have been added.
-fn push_copies(behind: &mut Vec<Entry>, entries: &[Entry]) -> std::result::Result<(), AllocError>
-    ensures ok { OnOk result (behind.new.items ≡ behind.old.items ++ entries.now) }
-    ensures kept { take (length behind.old.items) behind.new.items ≡ behind.old.items }
+fn push_copies(following: &mut Vec<Entry>, entries: &[Entry]) -> std::result::Result<(), AllocError>
+    ensures ok { OnOk result (following.new.items ≡ following.old.items ++ entries.now) }
+    ensures kept { take (length following.old.items) following.new.items ≡ following.old.items }
 {
     for entry in entries {
-        behind.push(entry.copy()?)?;
+        following.push(entry.copy()?)?;
     }
     Ok(())
 }
 
 /// Appends copies of these entries to others; if memory is refused, those are unchanged.
 pub(super) fn append_copies(
-    behind: &mut Vec<Entry>,
+    following: &mut Vec<Entry>,
     entries: &[Entry],
 ) -> std::result::Result<(), AllocError>
-    ensures ok { OnOk result (behind.new.items ≡ behind.old.items ++ entries.now) }
-    ensures err { OnErr result (behind.new.items ≡ behind.old.items) }
+    ensures ok { OnOk result (following.new.items ≡ following.old.items ++ entries.now) }
+    ensures err { OnErr result (following.new.items ≡ following.old.items) }
 {
-    let before = behind.len();
-    behind.reserve(entries.len())?;
-    match push_copies(behind, entries) {
+    let before = following.len();
+    following.reserve(entries.len())?;
+    match push_copies(following, entries) {
         Ok(()) => Ok(()),
         Err(error) => {
-            behind.truncate(before);
+            following.truncate(before);
             Err(error)
         }
     }

@@ -151,14 +151,14 @@ impl<'a> Cursor<'a> {
         ensures { MatchOption result (self.now ≡ end) (λ p. self.now ≡ before_next p.0 p.1) }
     {
         let (first, rest) = split_first(self.entries)?;
-        let behind = self.trees.saturating_sub(1);
+        let following = self.trees.saturating_sub(1);
         match first.token() {
-            Token::Ident(ident) => Some((TokenTreeRef::Ident(ident), Cursor::new(rest, behind))),
+            Token::Ident(ident) => Some((TokenTreeRef::Ident(ident), Cursor::new(rest, following))),
             Token::Literal(literal) => Some((
                 TokenTreeRef::Literal(literal),
-                Cursor::new(rest, behind),
+                Cursor::new(rest, following),
             )),
-            Token::Punct(punct) => Some((TokenTreeRef::Punct(punct), Cursor::new(rest, behind))),
+            Token::Punct(punct) => Some((TokenTreeRef::Punct(punct), Cursor::new(rest, following))),
             Token::Open(open) => {
                 let (content, close, rest) = split_close(rest, open.skip)?;
                 let inner = GroupRef {
@@ -167,7 +167,7 @@ impl<'a> Cursor<'a> {
                     closing: close.span,
                     content: Cursor::new(content, close.trees),
                 };
-                Some((TokenTreeRef::Group(inner), Cursor::new(rest, behind)))
+                Some((TokenTreeRef::Group(inner), Cursor::new(rest, following)))
             }
             Token::Close(_) => None,
         }

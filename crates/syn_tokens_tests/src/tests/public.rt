@@ -1,5 +1,5 @@
 //! What callers ask of buffers, and of whole streams.
-use crate::tests::support::{assert_parsed, at, refused, stream, tells, tokens};
+use crate::tests::support::{assert_parsed, at, refused, stream, settles, tokens};
 use std::alloc::Global;
 use syn_parse::buffer::ParseBuffer;
 use syn_parse::ext::IdentExt;
@@ -56,7 +56,7 @@ fn is_content_parsed(content: &mut ParseBuffer<'_>) -> bool {
     refused(&content.finish(), 1, "unexpected token")
         && is_name(content.parse(), "a")
         && content.finish().is_ok()
-        && tells(&content.error("no more"), 2, "no more")
+        && settles(&content.error("no more"), 2, "no more")
 }
 
 #[test]
@@ -95,7 +95,7 @@ fn whole_streams(rt: HostRuntime) {
 }
 
 /// Whether the faults are at 0, and these are their texts, in order.
-fn tells_all(error: &Error, texts: &str) -> bool {
+fn settles_all(error: &Error, texts: &str) -> bool {
     let mut texts = texts.split(';');
     for fault in error.faults() {
         if fault.span != at(0) || texts.next() != Some(fault.text) {
@@ -112,7 +112,7 @@ fn is_much_looked_for(input: &ParseBuffer<'_>, texts: &str) -> bool {
     let is_there = lookahead.peek::<Pub>();
     let seen = seen || lookahead.peek::<Enum>() || lookahead.peek::<Ident>();
     let seen = seen || lookahead.peek::<Comma>() || lookahead.peek::<PathSep>();
-    !seen && is_there && tells_all(&lookahead.error(), texts)
+    !seen && is_there && settles_all(&lookahead.error(), texts)
 }
 
 #[test]
@@ -123,11 +123,11 @@ fn looked_for(rt: HostRuntime) {
 }
 
 /// Whether nothing that was looked for is reported with this text there, and `type`, looked for, as missing there.
-fn tells_next(input: &ParseBuffer<'_>, start: usize, text: &str) -> bool {
+fn settles_next(input: &ParseBuffer<'_>, start: usize, text: &str) -> bool {
     let mut lookahead = input.lookahead1();
-    tells(&input.lookahead1().error(), start, text)
+    settles(&input.lookahead1().error(), start, text)
         && !lookahead.peek::<Type>()
-        && tells(&lookahead.error(), start, "expected `type`")
+        && settles(&lookahead.error(), start, "expected `type`")
 }
 
 /// That is so before a token, and at the end after it.
@@ -135,8 +135,8 @@ fn tells_next(input: &ParseBuffer<'_>, start: usize, text: &str) -> bool {
 fn looked_for_nothing(rt: HostRuntime) {
     let stream = stream(&rt, rt.alloc(), "pub");
     let mut input = ParseBuffer::new(&stream);
-    assert!(rt; tells_next(&input, 0, "unexpected token") && input.parse::<Pub>().is_ok());
-    assert!(rt; tells_next(&input, 1, "unexpected end of input"));
+    assert!(rt; settles_next(&input, 0, "unexpected token") && input.parse::<Pub>().is_ok());
+    assert!(rt; settles_next(&input, 1, "unexpected end of input"));
 }
 
 /// Whether so many names are a list to the end, and whether a `,` follows the last.
@@ -233,13 +233,13 @@ fn any_identifiers(rt: HostRuntime) {
 fn is_looked_for(input: &ParseBuffer<'_>, start: usize) -> bool {
     let mut lookahead = input.lookahead1();
     let seen = lookahead.peek::<Ident>();
-    !seen && tells(&lookahead.error(), start, "expected identifier")
+    !seen && settles(&lookahead.error(), start, "expected identifier")
 }
 
 /// Whether the buffer is at the end of a group whose closing delimiter is at 2: each refusal is at that place.
 fn is_at_close(input: &mut ParseBuffer<'_>) -> bool {
     input.span() == at(2)
-        && tells(&input.error("no"), 2, "no")
+        && settles(&input.error("no"), 2, "no")
         && is_looked_for(input, 2)
         && refused(&input.parse::<Struct>(), 2, "expected `struct`")
         && refused(&input.parenthesized(), 2, "expected parentheses")

@@ -18,7 +18,7 @@ use syn_tokens::token::{Comma, Delimiters, Mark, Paren, PathSep, Pub, Struct, Wo
 
 const HERE: Span = Span { start: 3, end: 9 };
 
-const BEHIND: Span = Span { start: 9, end: 11 };
+const FOLLOWING: Span = Span { start: 9, end: 11 };
 
 /// The value at the front of the text, whose first byte is this one.
 fn value_at<T: Parse + Drop>(alloc: Global, text: &str, start: usize) -> Result<T> {
@@ -77,7 +77,7 @@ fn marks(rt: HostRuntime) {
     let nowhere = Comma::default();
     let copy = TryClone::try_clone(&mark, rt.alloc()).expect(&rt, "a copy");
     assert!(rt; copy.spans[0] == HERE);
-    assert!(rt; mark.is_same(&Mark::new([BEHIND])), "wherever they stand");
+    assert!(rt; mark.is_same(&Mark::new([FOLLOWING])), "wherever they stand");
     assert!(rt;
         nowhere.spans[0] == Span::call_site() && mark == nowhere,
         "wherever they stand"
@@ -118,7 +118,7 @@ type Names = Punctuated<Ident, Comma>;
 /// `a , TEXT`
 fn list(alloc: Global, text: &str) -> Result<Names> {
     let mut list = Punctuated::new(alloc);
-    list.push_pair(value_at(alloc, "a", 0)?, Mark::new([BEHIND]))?;
+    list.push_pair(value_at(alloc, "a", 0)?, Mark::new([FOLLOWING]))?;
     list.push_value(value_at(alloc, text, 0)?)?;
     Ok(list)
 }
@@ -183,9 +183,9 @@ fn lifetimes(rt: HostRuntime) {
 
 #[test]
 fn signs(rt: HostRuntime) {
-    let signs: Paren = Delimiters::new(HERE, BEHIND);
+    let signs: Paren = Delimiters::new(HERE, FOLLOWING);
     let nowhere: Paren = Delimiters::default();
-    assert!(rt; signs.opening == HERE && signs.closing == BEHIND);
+    assert!(rt; signs.opening == HERE && signs.closing == FOLLOWING);
     assert!(rt; nowhere.closing == Span::call_site());
     assert!(rt; signs == nowhere, "wherever they stand");
 }
@@ -219,7 +219,7 @@ fn refusals(rt: HostRuntime) {
     );
     assert!(rt;
         is_refusal(
-            input.refusal_behind(PathSep::expected()),
+            input.refusal_after(PathSep::expected()),
             at(1),
             "expected `::`"
         )

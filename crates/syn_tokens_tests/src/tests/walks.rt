@@ -32,7 +32,7 @@ fn add_tree(out: &mut String, tree: &TokenTreeRef<'_>) -> Result<(), AllocError>
 }
 
 /// All trees of an iterator.
-fn told(alloc: Global, trees: Iter<'_>) -> Result<String, AllocError> {
+fn reported(alloc: Global, trees: Iter<'_>) -> Result<String, AllocError> {
     let mut out = String::new(alloc);
     for tree in trees {
         add_tree(&mut out, &tree)?;
@@ -42,7 +42,7 @@ fn told(alloc: Global, trees: Iter<'_>) -> Result<String, AllocError> {
 
 /// Whether this text shows the trees.
 fn are_known(alloc: Global, trees: Iter<'_>, want: &str) -> bool {
-    matches!(told(alloc, trees), Ok(text) if text.as_str() == want)
+    matches!(reported(alloc, trees), Ok(text) if text.as_str() == want)
 }
 
 /// Whether the stream, gone through by itself, has so many trees, each before this byte.
@@ -86,7 +86,7 @@ fn into_groups(rt: HostRuntime) {
 }
 
 /// Whether there are so many trees left, and none after them.
-fn ends_behind(trees: &mut Iter<'_>, count: usize) -> bool {
+fn ends_after(trees: &mut Iter<'_>, count: usize) -> bool {
     for _ in 0..count {
         if trees.next().is_none() {
             return false;
@@ -101,5 +101,5 @@ fn nothing_after_the_end(rt: HostRuntime) {
     let sample = stream(&rt, rt.alloc(), SAMPLE);
     let mut trees = sample.iter();
     let again = trees.clone().expect(&rt, "a copy");
-    assert!(rt; ends_behind(&mut trees, 4) && are_known(rt.alloc(), again, SHOWN));
+    assert!(rt; ends_after(&mut trees, 4) && are_known(rt.alloc(), again, SHOWN));
 }

@@ -122,16 +122,16 @@ fn is_macro_mark(opening: &Opening<'_>, place: usize) -> bool {
                 return false;
             };
             matches!(open.delimiter, Delimiter::Brace)
-                && !goes_on(opening, opening.seen_from(end.saturating_add(1)))
+                && !proceeds(opening, opening.seen_from(end.saturating_add(1)))
         }
         _ => false,
     }
 }
 
 /// Whether `.` or `?` continues an operand here.
-fn goes_on(opening: &Opening<'_>, place: usize) -> bool {
-    let behind = opening.seen_from(place.saturating_add(1));
-    let is_range = is_joint_mark(opening, place, '.') && is_mark(opening, behind, '.');
+fn proceeds(opening: &Opening<'_>, place: usize) -> bool {
+    let following = opening.seen_from(place.saturating_add(1));
+    let is_range = is_joint_mark(opening, place, '.') && is_mark(opening, following, '.');
     is_mark(opening, place, '?') || is_mark(opening, place, '.') && !is_range
 }
 
@@ -139,8 +139,8 @@ fn goes_on(opening: &Opening<'_>, place: usize) -> bool {
 pub(crate) fn begins_parameters(opening: &Opening<'_>, place: usize) -> bool {
     match &opening.token(place) {
         Some(Token::Ident(ident)) => {
-            let behind = opening.seen_from(place.saturating_add(1));
-            ident.is("const") || !ident.is_keyword() && ends_parameter(opening, behind)
+            let following = opening.seen_from(place.saturating_add(1));
+            ident.is("const") || !ident.is_keyword() && ends_parameter(opening, following)
         }
         Some(Token::Punct(_)) => is_one_of(opening, place, &['>', '#', '\'']),
         _ => false,
@@ -158,11 +158,11 @@ pub(crate) fn is_restriction(opening: &Opening<'_>, place: usize) -> bool {
     match &opening.token(place) {
         Some(Token::Open(open)) => {
             let word = opening.seen_from(place.saturating_add(1));
-            let behind = opening.seen_from(word.saturating_add(1));
+            let following = opening.seen_from(word.saturating_add(1));
             matches!(open.delimiter, Delimiter::Paren)
                 && (is_word(opening, word, "in")
                     || is_one_of_words(opening, word, PLACES)
-                        && opening.end_of(place) == Some(behind))
+                        && opening.end_of(place) == Some(following))
         }
         _ => false,
     }
@@ -179,8 +179,8 @@ fn is_one_of_words(opening: &Opening<'_>, place: usize, words: &[&str]) -> bool 
 pub(crate) fn begins_binding(opening: &Opening<'_>, place: usize) -> bool {
     match &opening.token(place) {
         Some(Token::Ident(ident)) => {
-            let behind = opening.seen_from(place.saturating_add(1));
-            !ident.is_keyword() && is_mark(opening, behind, '=')
+            let following = opening.seen_from(place.saturating_add(1));
+            !ident.is_keyword() && is_mark(opening, following, '=')
         }
         _ => false,
     }
@@ -205,8 +205,8 @@ fn is_joint_mark(opening: &Opening<'_>, place: usize, character: char) -> bool {
 
 /// Whether `::` is here.
 fn is_path_mark(opening: &Opening<'_>, place: usize) -> bool {
-    let behind = opening.seen_from(place.saturating_add(1));
-    is_joint_mark(opening, place, ':') && is_mark(opening, behind, ':')
+    let following = opening.seen_from(place.saturating_add(1));
+    is_joint_mark(opening, place, ':') && is_mark(opening, following, ':')
 }
 
 fn is_one_of(opening: &Opening<'_>, place: usize, characters: &[char]) -> bool {

@@ -55,21 +55,21 @@ pub(crate) fn looked_through_at<T: Parse + Drop>(
             return Ok(Some(group));
         }
     }
-    Ok(behind_mark(opening, place))
+    Ok(after_mark(opening, place))
 }
 
 /// The group right after the characters of the mark at this index.
-fn behind_mark(opening: &Opening<'_>, place: usize) -> Option<usize> {
+fn after_mark(opening: &Opening<'_>, place: usize) -> Option<usize> {
     let mut last = place;
     for _character in 0..2 {
-        let behind = opening.behind(last)?;
-        if opening.begins_group(behind) {
-            return Some(behind);
+        let following = opening.following(last)?;
+        if opening.begins_group(following) {
+            return Some(following);
         }
-        if !opening.is_joint(behind) {
+        if !opening.is_joint(following) {
             return None;
         }
-        last = behind;
+        last = following;
     }
     None
 }
@@ -89,7 +89,7 @@ fn is_looked_through<T: Parse + Drop>(opening: &Opening<'_>, group: usize) -> Re
             Ok(begins_item_or_macro(opening, first) && passes::<T>(opening, group, Probe::Item)?)
         }
         Position::Type => {
-            if !begins_type(opening, first) || is_behind_impl(opening, group, first) {
+            if !begins_type(opening, first) || is_after_impl(opening, group, first) {
                 return Ok(true);
             }
             Ok(begins_binding(opening, first) && passes::<T>(opening, group, Probe::Lifetime)?)
@@ -98,7 +98,7 @@ fn is_looked_through<T: Parse + Drop>(opening: &Opening<'_>, group: usize) -> Re
 }
 
 /// Whether the generics of an impl start here.
-fn is_behind_impl(opening: &Opening<'_>, group: usize, first: usize) -> bool {
+fn is_after_impl(opening: &Opening<'_>, group: usize, first: usize) -> bool {
     match opening.before(group) {
         Some(word) => is_word(opening, word, "impl") && is_mark(opening, first, '<'),
         None => false,

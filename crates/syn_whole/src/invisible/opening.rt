@@ -130,12 +130,12 @@ impl<'t> Opening<'t> {
     /// empty groups before `pub`, since they are in place of the visibility. Returns whether there was such a group.
     pub(crate) fn open_level(&mut self, place: usize) -> bool {
         let (start, end) = self.level_around(place);
-        let (mut next, mut behind) = (Beginning::Nothing, end);
+        let (mut next, mut following) = (Beginning::Nothing, end);
         let mut inner = 0_usize;
         let mut found = self.open_restriction(start.saturating_sub(1));
         for at in (start..end).rev() {
             if self.is_delimiter_of_invisible(at) {
-                if inner == 0 && self.begins_group(at) && self.opens_by(at, next, behind) {
+                if inner == 0 && self.begins_group(at) && self.opens_by(at, next, following) {
                     self.open(at);
                     found = true;
                 }
@@ -147,7 +147,7 @@ impl<'t> Opening<'t> {
                 _ => {}
             }
             if inner == 0 {
-                (next, behind) = (beginning_of(self, at), at);
+                (next, following) = (beginning_of(self, at), at);
                 found = self.open_restriction(at) || found;
             }
         }
@@ -184,14 +184,14 @@ impl<'t> Opening<'t> {
             Beginning::Pub => self.end_of(group).is_some_and(|end| place < end),
             Beginning::Let => false,
             Beginning::Something => {
-                self.is_behind_impl_less(group) && begins_parameters(self, place)
-                    || self.is_behind_restricted(group) && is_restriction(self, place)
+                self.is_after_impl_less(group) && begins_parameters(self, place)
+                    || self.is_after_restricted(group) && is_restriction(self, place)
             }
         }
     }
 
     /// Whether the word before this place may be followed by a restriction.
-    fn is_behind_restricted(&self, place: usize) -> bool {
+    fn is_after_restricted(&self, place: usize) -> bool {
         match self.before(place) {
             Some(word) => is_word(self, word, "pub") || is_word(self, word, "impl"),
             None => false,
@@ -200,7 +200,7 @@ impl<'t> Opening<'t> {
 
     /// Opens the groups in the parentheses at this place, if they are a restriction. Returns whether there was such a group.
     fn open_restriction(&mut self, place: usize) -> bool {
-        if !self.is_behind_restricted(place) || !is_restriction(self, place) {
+        if !self.is_after_restricted(place) || !is_restriction(self, place) {
             return false;
         }
         let mut found = false;
@@ -236,13 +236,13 @@ impl<'t> Opening<'t> {
         let Some(end) = self.end_of(group) else {
             return false;
         };
-        let behind = self.seen_from(end.saturating_add(1));
-        let lifetimes = self.seen_from(behind.saturating_add(1));
-        is_word(self, behind, "for") && !is_mark(self, lifetimes, '<')
+        let following = self.seen_from(end.saturating_add(1));
+        let lifetimes = self.seen_from(following.saturating_add(1));
+        is_word(self, following, "for") && !is_mark(self, lifetimes, '<')
     }
 
     /// Whether `impl <` is right before this place.
-    fn is_behind_impl_less(&self, place: usize) -> bool {
+    fn is_after_impl_less(&self, place: usize) -> bool {
         let Some(less) = self.before(place) else {
             return false;
         };
@@ -306,10 +306,10 @@ impl<'t> Opening<'t> {
     }
 
     /// The first place after this one that isn't omitted.
-    pub(crate) fn behind(&self, place: usize) -> Option<usize> {
-        for behind in place.saturating_add(1)..self.opened.len() {
-            if !self.is_opened(behind) {
-                return Some(behind);
+    pub(crate) fn following(&self, place: usize) -> Option<usize> {
+        for following in place.saturating_add(1)..self.opened.len() {
+            if !self.is_opened(following) {
+                return Some(following);
             }
         }
         None

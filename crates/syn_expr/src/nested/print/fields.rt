@@ -8,7 +8,7 @@ ghost use Rattle.syn_tokens.specs.Leaves.{maybe};
 ghost use Rattle.syn_tokens.specs.Listing.{list_of};
 ghost use Rattle.syn_lower.specs.Sizes.{tree_size, values_size};
 ghost use Rattle.syn_expr.specs.Expressions.{syntax_of_Expr};
-ghost use Rattle.syn_expr.specs.Fields.{behind_member};
+ghost use Rattle.syn_expr.specs.Fields.{following_member};
 
 use crate::Expr;
 use crate::expr::FieldValue;
@@ -41,8 +41,8 @@ pub fn print_value<N: PrintOf<Expr>>(
     expr: &Expr,
     out: &mut StreamBuilder,
 ) -> Result<(), AllocError>
-    requires { (n : ℕ) → n ≤ tree_size (behind_member (maybe colon_syntax colon_token.now) (syntax_of_Expr expr.now)) → N.may nested.now n }
-    ensures prints { OnOk result (out.new ≡ added out.old (print (behind_member (maybe colon_syntax colon_token.now) (syntax_of_Expr expr.now)))) }
+    requires { (n : ℕ) → n ≤ tree_size (following_member (maybe colon_syntax colon_token.now) (syntax_of_Expr expr.now)) → N.may nested.now n }
+    ensures prints { OnOk result (out.new ≡ added out.old (print (following_member (maybe colon_syntax colon_token.now) (syntax_of_Expr expr.now)))) }
     ensures begins { out.new.before ≡ out.old.before }
 {
     match colon_token {

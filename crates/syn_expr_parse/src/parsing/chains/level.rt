@@ -49,11 +49,11 @@ pub(super) struct Level<'a> {
 impl<'a> Level<'a> {
     /// A stream that wasn't looked at.
     pub(super) fn new(rest: Cursor<'a>) -> Level<'a> {
-        Level::behind(Delimiter::Brace, Span::call_site(), rest)
+        Level::following(Delimiter::Brace, Span::call_site(), rest)
     }
 
     /// A group that wasn't looked at.
-    fn behind(delimiter: Delimiter, opening: Span, rest: Cursor<'a>) -> Level<'a> {
+    fn following(delimiter: Delimiter, opening: Span, rest: Cursor<'a>) -> Level<'a> {
         Level {
             rest,
             opening,
@@ -207,6 +207,6 @@ impl<'a> Level<'a> {
             (Before::Mark(_, _), _) => {}
             _ => self.link(),
         }
-        Some(Level::behind(group.delimiter, group.opening, group.content))
+        Some(Level::following(group.delimiter, group.opening, group.content))
     }
 }

@@ -4,7 +4,7 @@ ghost use Rattle.syn_grammar.proofs.Each.{bit_and_is, bit_and_head_is, bit_ands_
 ghost use Rattle.syn_expr_parse.specs.Levels.{bit_and_operators, bit_or_operators, bit_xor_operators, conjunction_operators, disjunction_operators, product_operators, shift_operators, sum_operators};
 ghost use Rattle.syn_expr_parse.specs.LevelSteps.{level_at, steps_at};
 
-use super::behind::{cast, comparison};
+use super::following::{cast, comparison};
 use super::operators::{
     bit_and_operator, bit_or_operator, bit_xor_operator, conjunction_operator,
     disjunction_operator, product_operator, shift_operator, sum_operator,

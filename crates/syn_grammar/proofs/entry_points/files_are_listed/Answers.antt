@@ -1,5 +1,5 @@
-use Rattle.syn_grammar.proofs.ListedItems.{listing_begins, listing_goes_on, listing_ends, listing_refused}
+use Rattle.syn_grammar.proofs.ListedItems.{listing_begins, listing_continues, listing_ends, listing_refused}
 use Rattle.syn_grammar.proofs.entry_points.files_are_listed.Goals as goal
 
 pub returns : goal.returns
-returns c = record { begins = listing_begins; goes_on = listing_goes_on; ends = listing_ends; refused = listing_refused }
+returns c = record { begins = listing_begins; proceeds = listing_continues; ends = listing_ends; refused = listing_refused }

@@ -143,7 +143,7 @@ fn marked_abi(input: &mut ParseBuffer<'_>) -> Parsed<(Option<Unsafe>, Abi)>
 }
 
 /// What begins with `const`: a trait, an impl, a function or a constant.
-pub(super) fn behind_const(begun: Begun, input: &mut ParseBuffer<'_>) -> Parsed<Option<Item>>
+pub(super) fn following_const(begun: Begun, input: &mut ParseBuffer<'_>) -> Parsed<Option<Item>>
     requires outer { all_attributes_syntax begun.attrs.items ≡ attributes_syntax begun.attrs.items }
     requires next { sees (at_word w_const) input.old ≡ true }
     ensures follows { (ts : Stream) → Follows IsSyntax syntax_of_Item rules.kept_item ts (run_plan (const_stage begun) rules.kept_item ts input.old) result input.new }

@@ -3,7 +3,7 @@ ghost use Rattle.std.specs.Prelude.{◌≡◌, ◌≤◌, ℕ, OnOk};
 ghost use Rattle.syn_grammar.specs.Grammar.{print};
 ghost use Rattle.syn_tokens.specs.Building.{added};
 ghost use Rattle.syn_tokens.specs.Kinds.{gt_syntax};
-ghost use Rattle.syn_lower.specs.QualifiedPaths.{behind_type, with_qself, syntax_of_TypePath};
+ghost use Rattle.syn_lower.specs.QualifiedPaths.{after_type, with_qself, syntax_of_TypePath};
 ghost use Rattle.syn_lower.specs.QualifiedPrints.{word_part, words_row};
 ghost use Rattle.syn_lower.specs.Sizes.{tree_size, values_size};
 
@@ -41,8 +41,8 @@ fn print_after_type<N: PrintType>(
     path: &Path,
     out: &mut StreamBuilder,
 ) -> Result<(), AllocError>
-    requires { (n : ℕ) → n ≤ tree_size (behind_type qself.now path.now) → N.may nested.now n }
-    ensures prints { OnOk result (out.new ≡ added out.old (print (behind_type qself.now path.now))) }
+    requires { (n : ℕ) → n ≤ tree_size (after_type qself.now path.now) → N.may nested.now n }
+    ensures prints { OnOk result (out.new ≡ added out.old (print (after_type qself.now path.now))) }
     ensures begins { out.new.before ≡ out.old.before }
 {
     let inside = qself.position.min(path.segments.len());

@@ -16,7 +16,7 @@ impl<'a> Lexer<'a> {
         requires past { IsPast 47 start.now self.old.cursor }
         requires begins { begins_comment (left start.now) ≡ true }
         ensures onward { Onward self.old.cursor self.new.cursor }
-        ensures stands { MatchResult result (λ l. IsLexemeFrom start.now.text.now start.now.offset l self.new.cursor.offset) (IsLexicalFault start.now.text.now start.now.offset) }
+        ensures present { MatchResult result (λ l. IsLexemeFrom start.now.text.now start.now.offset l self.new.cursor.offset) (IsLexicalFault start.now.text.now start.now.offset) }
     {
         if !self.comment_ends() {
             return Err(unterminated_comment(self.cursor.span_since(start)));

@@ -2,10 +2,10 @@
 ghost use Rattle.std.specs.Prelude.{◌≡◌, ◌∷◌, [], ◌<◌, ◌≤◌, ◌==◌, ◌&&◌, ℕ, true, false, drop, length, MatchOption, MatchResult, OnSome};
 ghost use Rattle.std.specs.Char.{encode_utf8};
 ghost use Rattle.syn_tokens.specs.Idents.{may_start};
-ghost use Rattle.syn_reader.specs.Scanning.{where_found, begins_with, literal_at, Scanned, behind_suffix, closed, after_quote, after_raw_string, after_raw, has_hashes, raw_string_at, character_at, prefixed_at, begins_raw_string, begins_byte, begins_character};
+ghost use Rattle.syn_reader.specs.Scanning.{where_found, begins_with, literal_at, Scanned, after_suffix, closed, after_quote, after_raw_string, after_raw, has_hashes, raw_string_at, character_at, prefixed_at, begins_raw_string, begins_byte, begins_character};
 ghost use Rattle.syn_tokens.specs.declared.literal.LitKind.{LitKind};
 ghost use Rattle.syn_reader.specs.Places.{left, Onward};
-ghost use Rattle.syn_reader.specs.Spelling.{Stands};
+ghost use Rattle.syn_reader.specs.Spelling.{Present};
 ghost use Rattle.syn_reader.specs.Refusals.{IsLexicalFault};
 
 use crate::reader::cursor::Cursor;
@@ -22,9 +22,9 @@ impl<'a> Lexer<'a> {
     /// The lexeme that starts with `'`, which is consumed: a character, or the `'` of a lifetime.
     pub(super) fn apostrophe(&mut self, start: &Cursor<'a>) -> Result<Lexeme<'a>>
         requires past { IsPast 39 start.now self.old.cursor }
-        requires first { Stands start.now.text.now (encode_utf8 39) start.now.offset self.old.cursor.offset }
+        requires first { Present start.now.text.now (encode_utf8 39) start.now.offset self.old.cursor.offset }
         ensures onward { Onward self.old.cursor self.new.cursor }
-        ensures stands { MatchResult result (λ l. IsLexemeFrom start.now.text.now start.now.offset l self.new.cursor.offset) (IsLexicalFault start.now.text.now start.now.offset) }
+        ensures present { MatchResult result (λ l. IsLexemeFrom start.now.text.now start.now.offset l self.new.cursor.offset) (IsLexicalFault start.now.text.now start.now.offset) }
     {
         if begins_character(self.cursor) {
             return self.character(LitKind::Char, start);
@@ -42,7 +42,7 @@ impl<'a> Lexer<'a> {
         requires past { IsPast 98 start.now self.old.cursor }
         requires begins { begins_byte (left self.old.cursor) ≡ true }
         ensures onward { Onward self.old.cursor self.new.cursor }
-        ensures stands { MatchResult result (λ l. IsLexemeFrom start.now.text.now start.now.offset l self.new.cursor.offset) (IsLexicalFault start.now.text.now start.now.offset) }
+        ensures present { MatchResult result (λ l. IsLexemeFrom start.now.text.now start.now.offset l self.new.cursor.offset) (IsLexicalFault start.now.text.now start.now.offset) }
     {
         self.step();
         self.character(LitKind::Byte, start)
@@ -60,7 +60,7 @@ impl<'a> Lexer<'a> {
         requires letter { (first == 114) ≡ false }
         requires literal { literal_at (left start.now) ≡ prefixed_at kind (left self.old.cursor) }
         ensures onward { Onward self.old.cursor self.new.cursor }
-        ensures stands { MatchResult result (λ l. IsLexemeFrom start.now.text.now start.now.offset l self.new.cursor.offset) (IsLexicalFault start.now.text.now start.now.offset) }
+        ensures present { MatchResult result (λ l. IsLexemeFrom start.now.text.now start.now.offset l self.new.cursor.offset) (IsLexicalFault start.now.text.now start.now.offset) }
     {
         if self.cursor.is_at('"') {
             self.step();
@@ -79,7 +79,7 @@ impl<'a> Lexer<'a> {
         requires earlier { start.now.offset < self.old.cursor.offset }
         requires literal { literal_at (left start.now) ≡ closed kind (after_quote 34 (left self.old.cursor)) }
         ensures onward { Onward self.old.cursor self.new.cursor }
-        ensures stands { MatchResult result (λ l. IsLexemeFrom start.now.text.now start.now.offset l self.new.cursor.offset) (IsLexicalFault start.now.text.now start.now.offset) }
+        ensures present { MatchResult result (λ l. IsLexemeFrom start.now.text.now start.now.offset l self.new.cursor.offset) (IsLexicalFault start.now.text.now start.now.offset) }
     {
         let is_closed = self.closes_by('"');
         self.literal(is_closed, kind, start)
@@ -91,7 +91,7 @@ impl<'a> Lexer<'a> {
         requires earlier { start.now.offset < self.old.cursor.offset }
         requires literal { literal_at (left start.now) ≡ closed kind (after_raw_string 0 (left self.old.cursor)) }
         ensures onward { Onward self.old.cursor self.new.cursor }
-        ensures stands { MatchResult result (λ l. IsLexemeFrom start.now.text.now start.now.offset l self.new.cursor.offset) (IsLexicalFault start.now.text.now start.now.offset) }
+        ensures present { MatchResult result (λ l. IsLexemeFrom start.now.text.now start.now.offset l self.new.cursor.offset) (IsLexicalFault start.now.text.now start.now.offset) }
     {
         let is_closed = self.raw_closes();
         self.literal(is_closed, kind, start)
@@ -104,7 +104,7 @@ impl<'a> Lexer<'a> {
         requires begins { begins_character (left self.old.cursor) ≡ true }
         requires literal { literal_at (left start.now) ≡ character_at kind (left self.old.cursor) }
         ensures onward { Onward self.old.cursor self.new.cursor }
-        ensures stands { MatchResult result (λ l. IsLexemeFrom start.now.text.now start.now.offset l self.new.cursor.offset) (IsLexicalFault start.now.text.now start.now.offset) }
+        ensures present { MatchResult result (λ l. IsLexemeFrom start.now.text.now start.now.offset l self.new.cursor.offset) (IsLexicalFault start.now.text.now start.now.offset) }
     {
         let is_closed = self.character_closes();
         self.literal(is_closed, kind, start)
@@ -210,7 +210,7 @@ impl<'a> Lexer<'a> {
         requires earlier { start.now.offset < self.old.cursor.offset }
         requires literal { literal_at (left start.now) ≡ closed kind (where_found is_closed (left self.old.cursor)) }
         ensures onward { Onward self.old.cursor self.new.cursor }
-        ensures stands { MatchResult result (λ l. IsLexemeFrom start.now.text.now start.now.offset l self.new.cursor.offset) (IsLexicalFault start.now.text.now start.now.offset) }
+        ensures present { MatchResult result (λ l. IsLexemeFrom start.now.text.now start.now.offset l self.new.cursor.offset) (IsLexicalFault start.now.text.now start.now.offset) }
     {
         if !is_closed {
             return Err(unterminated_literal(self.cursor.span_since(start)));
@@ -220,10 +220,10 @@ impl<'a> Lexer<'a> {
     }
 
     /// Skips the suffix of a literal, if there is one.
-    #[tactic(auto, unfolding(crate::specs::Scanning::behind_suffix))]
+    #[tactic(auto, unfolding(crate::specs::Scanning::after_suffix))]
     fn skip_suffix(&mut self)
         ensures onward { Onward self.old.cursor self.new.cursor }
-        ensures left { left self.new.cursor ≡ behind_suffix (left self.old.cursor) }
+        ensures left { left self.new.cursor ≡ after_suffix (left self.old.cursor) }
     {
         if is_at_name(self.cursor) {
             self.cursor.skip_while(is_xid_continue);

@@ -2,7 +2,7 @@
 ghost use Rattle.std.specs.Prelude.{◌≡◌, ◌&&◌, ◌||◌, if◌then◌else◌, true, false, Some, None, IfSome, MatchOption};
 ghost use Rattle.std.specs.Char.{is_ascii_digit};
 ghost use Rattle.syn_reader.specs.Places.{left, Onward};
-ghost use Rattle.syn_reader.specs.Scanning.{literal_at, number_at, decimal_at, Scanned, after_digits, has_exponent, is_plain, is_some, or_else, after_exponent, after_sign, begins_fraction, begins_with, first_passes, is_decimal, goes_on_number};
+ghost use Rattle.syn_reader.specs.Scanning.{literal_at, number_at, decimal_at, Scanned, after_digits, has_exponent, is_plain, is_some, or_else, after_exponent, after_sign, begins_fraction, begins_with, first_passes, is_decimal, continues_number};
 
 use crate::reader::cursor::Cursor;
 use crate::reader::lexer::{Lexeme, Lexer, is_at_name};
@@ -17,7 +17,7 @@ impl<'a> Lexer<'a> {
         requires past { IsPast first start.now self.old.cursor }
         requires literal { literal_at (left start.now) ≡ number_at first (left self.old.cursor) }
         ensures onward { Onward self.old.cursor self.new.cursor }
-        ensures stands { IsLexemeFrom start.now.text.now start.now.offset result self.new.cursor.offset }
+        ensures present { IsLexemeFrom start.now.text.now start.now.offset result self.new.cursor.offset }
     {
         let kind = self.number_kind(first);
         self.literal_since(kind, start)
@@ -30,7 +30,7 @@ impl<'a> Lexer<'a> {
         ensures scanned { number_at first (left self.old.cursor) ≡ Scanned result (left self.new.cursor) }
     {
         if first == '0' && is_at_base(self.cursor) {
-            self.cursor.skip_while(goes_on_number);
+            self.cursor.skip_while(continues_number);
             LitKind::Int
         } else {
             self.decimal()
@@ -67,7 +67,7 @@ impl<'a> Lexer<'a> {
         self.cursor.skip_while(is_decimal);
         let is_plain = !is_at_letter(self.cursor);
         let has_exponent = self.exponent(may_have_exponent);
-        self.cursor.skip_while(goes_on_number);
+        self.cursor.skip_while(continues_number);
         Digits {
             has_exponent,
             is_plain,
@@ -75,15 +75,15 @@ impl<'a> Lexer<'a> {
     }
 
     /// Skips the letter and sign of an exponent, if one is allowed and next; returns whether it is.
-    fn exponent(&mut self, may_stand: bool) -> bool
+    fn exponent(&mut self, may_present: bool) -> bool
         ensures onward { Onward self.old.cursor self.new.cursor }
-        ensures found { result ≡ (may_stand && is_some (after_exponent (left self.old.cursor))) }
-        ensures left { left self.new.cursor ≡ (if may_stand then or_else (after_exponent (left self.old.cursor)) (left self.old.cursor) else left self.old.cursor) }
+        ensures found { result ≡ (may_present && is_some (after_exponent (left self.old.cursor))) }
+        ensures left { left self.new.cursor ≡ (if may_present then or_else (after_exponent (left self.old.cursor)) (left self.old.cursor) else left self.old.cursor) }
     {
-        if !may_stand {
+        if !may_present {
             return false;
         }
-        match behind_exponent(self.cursor) {
+        match following_exponent(self.cursor) {
             Some(cursor) => {
                 self.cursor = cursor;
                 true
@@ -103,20 +103,20 @@ struct Digits {
 
 /// The position after the letter and the sign of an exponent, if an exponent is next.
 #[tactic(auto, unfolding(crate::specs::Scanning::after_exponent))]
-fn behind_exponent(cursor: Cursor<'_>) -> Option<Cursor<'_>>
+fn following_exponent(cursor: Cursor<'_>) -> Option<Cursor<'_>>
     ensures onward { IfSome result (Onward cursor.entry) }
     ensures found { MatchOption result (after_exponent (left cursor.entry) ≡ None) (λ c. after_exponent (left cursor.entry) ≡ Some (left c)) }
 {
     let mut ahead = cursor;
     match ahead.bump() {
-        Some('e' | 'E') => behind_sign(ahead),
+        Some('e' | 'E') => following_sign(ahead),
         _ => None,
     }
 }
 
 /// The position after the sign of an exponent, or the same position if it has no sign; none if no digit follows.
 #[tactic(auto, unfolding(crate::specs::Scanning::after_sign))]
-fn behind_sign(cursor: Cursor<'_>) -> Option<Cursor<'_>>
+fn following_sign(cursor: Cursor<'_>) -> Option<Cursor<'_>>
     ensures onward { IfSome result (Onward cursor.entry) }
     ensures found { MatchOption result (after_sign (left cursor.entry) ≡ None) (λ c. after_sign (left cursor.entry) ≡ Some (left c)) }
 {
@@ -163,10 +163,10 @@ fn is_at_digit(cursor: Cursor<'_>) -> bool
 
 /// Whether a digit, a letter or `_` is next.
 fn is_at_letter(cursor: Cursor<'_>) -> bool
-    ensures { result ≡ first_passes goes_on_number (left cursor.entry) }
+    ensures { result ≡ first_passes continues_number (left cursor.entry) }
 {
     match cursor.peek() {
-        Some(next) => goes_on_number(next),
+        Some(next) => continues_number(next),
         None => false,
     }
 }
@@ -189,8 +189,8 @@ fn is_decimal(character: char) -> bool
     character.is_ascii_digit() || character == '_'
 }
 
-fn goes_on_number(character: char) -> bool
-    ensures { result ≡ goes_on_number character }
+fn continues_number(character: char) -> bool
+    ensures { result ≡ continues_number character }
 {
     character.is_ascii_alphanumeric() || character == '_'
 }

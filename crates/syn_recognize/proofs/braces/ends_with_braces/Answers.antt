@@ -8,5 +8,5 @@ pub trees-preserved : goal.trees-preserved
 trees-preserved c =
     let n = c.args.count in
     let i = c.trees._tree in
-    let left = c.in-Some.behind in
+    let left = c.in-Some.following in
     c.trees.invariant ∙ next_ends c.trees.braces n i c.in-Some.tree c.trees.rest left c.trees-test.true c.in-Some.ensures ∙ ap (λ b. ends_by b (first (n - (i + 1)) left)) (sym c.is_in_braces-braces.ensures)

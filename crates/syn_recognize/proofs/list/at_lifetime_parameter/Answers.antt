@@ -1,14 +1,14 @@
 use Rattle.std.proofs.Common.{◌≡◌, true, false, rules, sym}
 use Rattle.syn_grammar.specs.Table.{at_pound}
 use Rattle.syn_grammar.specs.Take.{sees}
-use Rattle.syn_recognize.proofs.Ordered.{attribute_behind, no_attribute, no_brackets}
+use Rattle.syn_recognize.proofs.Ordered.{attribute_after, no_attribute, no_brackets}
 use Rattle.syn_recognize.proofs.list.at_lifetime_parameter.Goals as goal
 
 pub attributes-preserved : goal.attributes-preserved
 unfolding Rattle.syn_recognize.specs.Names.rule_of Rattle.syn_recognize.specs.Parts.part_form
 attributes-preserved c = λ b h.
     let e : sees at_pound c.attributes.ahead ≡ true = search rules in
-    c.attributes.invariant b (attribute_behind c.attributes.ahead c.read.new.self _ _ b e c.in-Ok.ensures.reads c.in-Ok-read_group.ensures.reads h)
+    c.attributes.invariant b (attribute_after c.attributes.ahead c.read.new.self _ _ b e c.in-Ok.ensures.reads c.in-Ok-read_group.ensures.reads h)
 
 pub returns-in_default-read_group : goal.returns-in_default-read_group
 unfolding Rattle.syn_recognize.specs.Names.rule_of Rattle.syn_recognize.specs.Parts.part_form

@@ -5,7 +5,7 @@ use Rattle.syn_recognize.proofs.planned.read_aside.Goals as goal
 
 pub returns : goal.returns
 returns c =
-    let f = c.behind.result in
+    let f = c.following.result in
     let b = c.in_ok-before.before in
     let i = c.fork.result in
     let p = c.begin_of.result in
@@ -16,4 +16,4 @@ returns c =
     let was : b.value ≡ w = search rules in
     let here : i ≡ ts = search rules in
     let kept : g.kept ≡ true = search rules in
-    begins_aside c.args.steps.now.items c.push-3.new.self.items f b i p c.args.planned g w c.drop_aside.new.self ts pushed c.behind.ensures was here c.begin_of.ensures kept
+    begins_aside c.args.steps.now.items c.push-3.new.self.items f b i p c.args.planned g w c.drop_aside.new.self ts pushed c.following.ensures was here c.begin_of.ensures kept

@@ -1,5 +1,5 @@
 use Rattle.std.proofs.Common.{◌≡◌, drop, false}
-use Rattle.syn_grammar.specs.ToldByTokens.{roots}
+use Rattle.syn_grammar.specs.DecidedByTokens.{roots}
 use Rattle.syn_recognize.specs.RootMarks.{roots_in}
 use Rattle.syn_recognize.proofs.roots.has_root.Given as goal
 

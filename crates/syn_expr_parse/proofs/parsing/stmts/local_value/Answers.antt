@@ -35,5 +35,5 @@ returns-clause-reads g c =
     let turned : local_value sign ts ≡ valued sign e (diverges (ends_by false (before c.fork-start.result m)) m) =
     value_read sign e ts m inner ∙ ap (λ s. valued sign e (diverges (ends_by false (before s m)) m)) (sym c.fork-start.ensures) in
     let other = diverging (maybe (λ p. Both (else_syntax p.0) (block_after_else (g.N.Trees.Trees.expr_syntax p.1.value))) c.in_ok-diverge.diverge) in
-    let behind : diverges (ends_by false (before c.fork-start.result m)) m ≡ Some (other, c.diverging.new.input) = search rules in
-    turned ∙ ap (valued sign e) behind ∙ ap (λ s. Some (s, c.diverging.new.input)) (sym c.local_init.ensures)
+    let following : diverges (ends_by false (before c.fork-start.result m)) m ≡ Some (other, c.diverging.new.input) = search rules in
+    turned ∙ ap (valued sign e) following ∙ ap (λ s. Some (s, c.diverging.new.input)) (sym c.local_init.ensures)

@@ -10,7 +10,7 @@ use Rattle.syn_lower.specs.Attributes.{attributes_syntax}
 use Rattle.syn_expr_parse.specs.Listed.{is_listed}
 use Rattle.syn_expr_parse.specs.Spines.{spine_shown}
 use Rattle.syn_expr_parse.proofs.Spines.{going_spine}
-use Rattle.syn_expr_parse.proofs.StatementLists.{block_goes_on}
+use Rattle.syn_expr_parse.proofs.StatementLists.{block_continues}
 use Rattle.syn_expr_parse.proofs.parsing.stmts.statement_of_block.Goals as goal
 
 pub statement_of_expression-requires-clause-shown : goal.statement_of_expression-requires-clause-shown
@@ -30,4 +30,4 @@ returns-then-at_postfix_mark-clause-reads g c =
     let got : wrap (onto (core left)) (parse_rule operand_rest ts) ≡ Some (e, c.operand_rest.new.input) = search rules in
     let onto_left = ap (λ z. wrap (onto z) (parse_rule operand_rest ts)) (sym (g.N.Trees.Trees.core_is c.args.expr.value)) ∙ got in
     subst (λ o. Computes IsSyntax g.N.Trees.Trees.stmt_syntax o c.statement_of_expression.result c.statement_of_expression.new.input)
-    (sym (block_goes_on (is_listed c.args.place) c.args.braces (attributes_syntax c.args.attrs.items) left ts e c.operand_rest.new.input none mark onto_left)) c.statement_of_expression.ensures.reads
+    (sym (block_continues (is_listed c.args.place) c.args.braces (attributes_syntax c.args.attrs.items) left ts e c.operand_rest.new.input none mark onto_left)) c.statement_of_expression.ensures.reads

@@ -72,6 +72,6 @@ returns-then-peek-5 c =
     let no_extern : sees at_extern m ≡ false = search rules in
     let no_unsafe : sees (at_word w_unsafe) m ≡ false = search rules in
     let here : sees (at_word w_const) m ≡ true = search rules in
-    let follows : (ts : Stream) → Follows IsSyntax syntax_of_Item kept_item ts (run_plan (other_kinds_plan c.args.begun) kept_item ts m) c.behind_const.result c.behind_const.new.input =
-    λ ts. const_follows kept_item ts p a v m IsSyntax syntax_of_Item c.behind_const.result c.behind_const.new.input no_trait no_auto no_macro no_function no_extern no_unsafe here (c.behind_const.ensures.follows ts) in
+    let follows : (ts : Stream) → Follows IsSyntax syntax_of_Item kept_item ts (run_plan (other_kinds_plan c.args.begun) kept_item ts m) c.following_const.result c.following_const.new.input =
+    λ ts. const_follows kept_item ts p a v m IsSyntax syntax_of_Item c.following_const.result c.following_const.new.input no_trait no_auto no_macro no_function no_extern no_unsafe here (c.following_const.ensures.follows ts) in
     search (rules, follows)

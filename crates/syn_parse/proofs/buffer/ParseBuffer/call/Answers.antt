@@ -8,5 +8,5 @@ returns-in_err-value-clause-answered g c = record {
   rest = c.f.new.arg2;
   called = search rules;
   same = same_error c.from_residual.result _ _ c.from_residual.ensures.1 (sym c.answer.ensures ∙ c.in_err-value.was);
-  goes_on = no_value _ c.from_residual.result _ c.from_residual.ensures.1;
+  proceeds = no_value _ c.from_residual.result _ c.from_residual.ensures.1;
 }

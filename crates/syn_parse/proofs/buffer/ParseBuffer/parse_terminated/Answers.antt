@@ -2,7 +2,7 @@ use Rattle.std.proofs.Common.{◌≡◌, Some, None, rules}
 use Rattle.syn_parse.specs.Form.{parse}
 use Rattle.syn_tokens.specs.Listing.{list_of}
 use Rattle.syn_parse.specs.Terminated.{terminated}
-use Rattle.syn_parse.proofs.TerminatedLists.{form_list_told, form_list_unread, list_err}
+use Rattle.syn_parse.proofs.TerminatedLists.{form_list_known, form_list_unread, list_err}
 use Rattle.syn_parse.proofs.buffer.ParseBuffer.parse_terminated.Goals as goal
 
 pub returns-in_err-list-clause-outcome : goal.returns-in_err-list-clause-outcome
@@ -14,5 +14,5 @@ pub returns-clause-outcome : goal.returns-clause-outcome
 returns-clause-outcome g c = λ v.
     let l = c.in_ok-list.list in
     let said : terminated (parse g.T.Parse.form) (parse g.P.Read.form) c.args.self.now ≡ Some (list_of g.T.Syntactic.syntax g.P.Syntactic.syntax l.pairs l.last, c.read_to_end.new.input) = search rules in
-    form_list_told g.T.Parse.form g.P.Read.form g.met.T.Parse.meaning g.met.P.Read.meaning g.met.P.Separator.reads_some
+    form_list_known g.T.Parse.form g.P.Read.form g.met.T.Parse.meaning g.met.P.Read.meaning g.met.P.Separator.reads_some
     g.T.Syntactic.syntax g.P.Syntactic.syntax l.pairs l.last c.args.self.now c.read_to_end.new.input v said

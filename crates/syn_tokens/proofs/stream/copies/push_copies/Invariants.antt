@@ -2,4 +2,4 @@ use Rattle.std.proofs.Common.{◌≡◌, ◌++◌, take}
 use Rattle.syn_tokens.proofs.stream.copies.push_copies.Given as goal
 
 abbrev pub invariant-loop-entry : goal.invariant-loop-entry
-invariant-loop-entry l = l.behind.items ≡ l.initial.behind.items ++ take l.entry-index l.entries
+invariant-loop-entry l = l.following.items ≡ l.initial.following.items ++ take l.entry-index l.entries

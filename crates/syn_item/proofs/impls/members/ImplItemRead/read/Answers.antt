@@ -12,8 +12,8 @@ returns-in-Ok-Some-clause-reads c =
     let a = attributes_syntax c.in_ok-attrs.attrs.items in
     let m = c.outer_attributes.new.input in
     let outer : parse_rule attributes ts ≡ Some (a, m) = search rules in
-    let told = rw c.in-Ok-Some.field-0-is at (c.in-Ok-Some.ensures.follows ts) in
-    impl_read ts a m outer (syntax_of_ImplItem c.in-Ok-Some.member) c.impl_item_after.new.input told
+    let reported = rw c.in-Ok-Some.field-0-is at (c.in-Ok-Some.ensures.follows ts) in
+    impl_read ts a m outer (syntax_of_ImplItem c.in-Ok-Some.member) c.impl_item_after.new.input reported
 
 pub returns-in-Ok-Some-clause-moved : goal.returns-in-Ok-Some-clause-moved
 returns-in-Ok-Some-clause-moved c =
@@ -21,8 +21,8 @@ returns-in-Ok-Some-clause-moved c =
     let a = attributes_syntax c.in_ok-attrs.attrs.items in
     let m = c.outer_attributes.new.input in
     let outer : parse_rule attributes ts ≡ Some (a, m) = search rules in
-    let told = rw c.in-Ok-Some.field-0-is at (c.in-Ok-Some.ensures.follows ts) in
-    impl_moved ts a m outer (syntax_of_ImplItem c.in-Ok-Some.member) c.impl_item_after.new.input told
+    let reported = rw c.in-Ok-Some.field-0-is at (c.in-Ok-Some.ensures.follows ts) in
+    impl_moved ts a m outer (syntax_of_ImplItem c.in-Ok-Some.member) c.impl_item_after.new.input reported
 
 pub returns-in_ok-kept_tokens-in-Ok-None-clause-reads : goal.returns-in_ok-kept_tokens-in-Ok-None-clause-reads
 unfolding Rattle.syn_recognize.specs.Names.rule_of

@@ -4,7 +4,7 @@ use Rattle.syn_grammar.specs.Tokens.{Stream, and, at_word, or}
 use Rattle.syn_grammar.specs.Rules.{Rule, kept_item}
 use Rattle.syn_grammar.specs.Grammar.{Syntax, Nothing, Left, word}
 use Rattle.syn_grammar.specs.Table.{optional_item_word}
-use Rattle.syn_grammar.specs.ItemPlan.{Place, behind_const}
+use Rattle.syn_grammar.specs.ItemPlan.{Place, following_const}
 use Rattle.syn_grammar.specs.Plan.{run_plan}
 use Rattle.syn_grammar.specs.Take.{Out, sees, take_token}
 use Rattle.syn_grammar.specs.Run.{branch, parse_form, wrap}
@@ -35,7 +35,7 @@ no_token (Some q) h = absurd (cc (sym h))
 -- nothing is read where `unsafe` isn't
 unsafe_refused : (k : Rule) (ts : Stream) (p : Place) (a v : Syntax) (m : Stream) → and (sees (at_word w_const) m) (sees (at_word w_unsafe) (past m)) ≡ true → (c : Syntax) (r : Stream) → parse_form (optional_item_word w_const) m ≡ Some (c, r) →
     parse_form (optional_item_word w_unsafe) r ≡ None → run_plan (const_turn p a v) k ts m ≡ None
-unfolding behind_const
+unfolding following_const
 unsafe_refused k ts p a v m next c r read none =
     let (x, q, e) = word_known w_const m c r (and_left (sees (at_word w_const) m) _ next) read in
     let s : sees (at_word w_unsafe) r ≡ true = ap (sees (at_word w_unsafe)) (sym (past_word w_const m (x, r) e)) ∙ and_right (sees (at_word w_const) m) _ next in

@@ -1,12 +1,12 @@
 use Rattle.std.proofs.Common.{refl, sym, ◌∙◌}
 use Rattle.std.proofs.lemmas.Str.{chars_past_char}
-use Rattle.syn_reader.proofs.Places.{ends_behind}
+use Rattle.syn_reader.proofs.Places.{ends_after}
 use Rattle.syn_reader.proofs.reader.cursor.Cursor.bump.Goals as goal
 
 pub step_to-requires : goal.step_to-requires
 step_to-requires c =
     rw c.as_str.ensures
-    (ends_behind _ _ _ (sym c.rest.ensures ∙ (sym c.chars-characters.ensures.rest ∙ c.in_ok-first.ensures.steps.0)))
+    (ends_after _ _ _ (sym c.rest.ensures ∙ (sym c.chars-characters.ensures.rest ∙ c.in_ok-first.ensures.steps.0)))
 
 pub returns-clause-left : goal.returns-clause-left
 returns-clause-left c =

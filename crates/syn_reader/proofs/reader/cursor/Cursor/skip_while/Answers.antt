@@ -10,7 +10,7 @@ returns-clause-skips g c = λ passes always.
     let finds : List ℕ → Option ℕ → Type 0 =
     λ m o. (test : ℕ → Bool) → AlwaysReturns g.F.FnMut (λ a r. r ≡ test a.0) c.args.test → FindsPrefixBy test m o in
     let cut = cut_passes passes finds (λ m o found. found passes always) _ trimmed.0 _ c.rest.utf8 trimmed.1 in
-    record { bytes = cut.front; utf8 = cut.front_utf8; all = cut.all; stands = c.step_to.ensures.stands cut.front (sym c.rest.ensures ∙ cut.split) }
+    record { bytes = cut.front; utf8 = cut.front_utf8; all = cut.all; present = c.step_to.ensures.present cut.front (sym c.rest.ensures ∙ cut.split) }
 
 pub returns-clause-left : goal.returns-clause-left
 returns-clause-left g c = λ passes always.

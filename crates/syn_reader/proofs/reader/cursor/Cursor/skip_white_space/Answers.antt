@@ -10,7 +10,7 @@ returns-clause-blank c =
     let space = take trimmed.0 c.rest.result.now in (
       space,
       trimmed.2,
-      c.step_to.ensures.stands space
+      c.step_to.ensures.present space
           (sym c.rest.ensures ∙ (sym (take-append-drop trimmed.0 c.rest.result.now) ∙ ap (λ r. space ++ r) (sym trimmed.1))),
     )
 

@@ -11,12 +11,12 @@ pub new-requires : goal.new-requires
 unfolding is_punct_character
 new-requires c = refl
 
-pub returns-then-is_at_name-clause-stands : goal.returns-then-is_at_name-clause-stands
-returns-then-is_at_name-clause-stands c =
+pub returns-then-is_at_name-clause-present : goal.returns-then-is_at_name-clause-present
+returns-then-is_at_name-clause-present c =
     lifetime_apostrophe c.args.start.now c.args.self.now.cursor _ _ c.requires.past c.requires.first (sym c.begins_character.ensures ∙ c.if-begins_character.false)
     (sym c.is_at_name.ensures ∙ c.if-is_at_name.true) c.new.ensures c.span_since-span.ensures
 
-pub returns-else-is_at_name-clause-stands : goal.returns-else-is_at_name-clause-stands
-returns-else-is_at_name-clause-stands c =
+pub returns-else-is_at_name-clause-present : goal.returns-else-is_at_name-clause-present
+returns-else-is_at_name-clause-present c =
     quote_alone c.args.start.now c.args.self.now.cursor _ _ c.requires.past c.requires.first (sym c.begins_character.ensures ∙ c.if-begins_character.false)
     (sym c.is_at_name.ensures ∙ c.if-is_at_name.false) c.span_since-span.ensures c.unexpected_character.ensures

@@ -6,8 +6,8 @@ use Rattle.unicode_ident.specs.Ident.{is_xid_continue}
 use Rattle.syn_reader.proofs.Identifiers.{word_is}
 use Rattle.syn_reader.proofs.reader.lexer.Lexer.identifier.Goals as goal
 
-pub returns-clause-stands : goal.returns-clause-stands
-returns-clause-stands c =
+pub returns-clause-present : goal.returns-clause-present
+returns-clause-present c =
     let same = c.requires.text in
     let front = c.requires.front in
     let word = c.requires.word in

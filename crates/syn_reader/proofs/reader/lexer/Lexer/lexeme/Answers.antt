@@ -18,8 +18,8 @@ pub quoted-requires-clause-literal : goal.quoted-requires-clause-literal
 quoted-requires-clause-literal c =
     ap literal_at c.requires.past.2 ∙ (ap (λ n. literal_from n (left c.args.self.now.cursor)) c.if-first-eq34.true ∙ quote_from _)
 
-pub returns-clause-stands : goal.returns-clause-stands
-returns-clause-stands c =
+pub returns-clause-present : goal.returns-clause-present
+returns-clause-present c =
     sign_or_fault c.group_delimiter.result c.args.start.now c.args.self.now.cursor c.args.first c.span_since.result c.requires.past c.requires.first c.span_since.ensures
     c.requires.no_space (sym c.if-starts_identifier.ensures) c.if-first-eq34.false c.if-first-eq39.false (sym c.if-is_ascii_digit.ensures.value) (sym c.if-is_punct_character.ensures)
     c.group_delimiter.ensures.ok c.group_delimiter.ensures.none c.group_delimiter.ensures.err

@@ -8,4 +8,4 @@ returns c =
     let past = c.requires.past in
     let absent = ap literal_at past.2 ∙ mark_from _ _ c.requires.mark c.requires.apart c.requires.no_digit in
     let joint = rw past.0 at c.spacing.ensures in
-    rw (c.new.ensures, c.span_since-span.ensures) (record { stands = ((c.requires.first, past.1, (rw c.requires.apart c.requires.mark, c.requires.no_comment, absent, rw c.requires.apart joint)), refl, refl) })
+    rw (c.new.ensures, c.span_since-span.ensures) (record { present = ((c.requires.first, past.1, (rw c.requires.apart c.requires.mark, c.requires.no_comment, absent, rw c.requires.apart joint)), refl, refl) })

@@ -1,5 +1,5 @@
 use Rattle.std.proofs.Common.{sym, ◌∙◌, arith}
-use Rattle.syn_reader.proofs.Scans.{hashed_more, hashed_stops, hashed_stand}
+use Rattle.syn_reader.proofs.Scans.{hashed_more, hashed_stops, hashed_present}
 use Rattle.syn_reader.proofs.reader.lexer.Lexer.skip_hashes.Goals as goal
 
 pub returns-then-not-is_at-clause-hashes : goal.returns-then-not-is_at-clause-hashes
@@ -12,4 +12,4 @@ loop-preserved c = (
 )
 
 pub returns-clause-hashes : goal.returns-clause-hashes
-returns-clause-hashes c = sym (hashed_stand c.loop.invariant.1 c.loop-test.false)
+returns-clause-hashes c = sym (hashed_present c.loop.invariant.1 c.loop-test.false)

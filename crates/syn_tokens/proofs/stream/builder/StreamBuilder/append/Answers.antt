@@ -15,9 +15,9 @@ overflow_add-self c =
       few c.entries.result.now c.len.result more,
       ap length c.in_ok-append_copies.ensures.ok,
       length-append c.self.inside.entries.items c.entries.result.now,
-      c.append_copies.new.behind.ok.0,
-      c.append_copies.new.behind.ok.1,
-      c.append_copies.new.behind.small,
+      c.append_copies.new.following.ok.0,
+      c.append_copies.new.following.ok.1,
+      c.append_copies.new.following.small,
     )
 
 pub invariant_of-self-2 : goal.invariant_of-self-2

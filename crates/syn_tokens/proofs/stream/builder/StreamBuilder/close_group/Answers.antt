@@ -2,7 +2,7 @@ use Rattle.std.proofs.Common.{rules, arith, [], ◌∷◌, ◌++◌, ap, sym, �
 use Rattle.std.proofs.lemmas.List.{take_at}
 use Rattle.syn_tokens.specs.Spans.{at}
 use Rattle.syn_tokens.specs.Building.{Building, building, out_of_group}
-use Rattle.syn_tokens.proofs.Builders.{stands_before, few_around, closed_built, closed_begun, closed_is, closed_nothing}
+use Rattle.syn_tokens.proofs.Builders.{is_before, few_around, closed_built, closed_begun, closed_is, closed_nothing}
 use Rattle.syn_tokens.proofs.Prints.{before_group}
 use Rattle.syn_tokens.specs.declared.stream.entry.Token.TheVariants as E
 use Rattle.syn_tokens.proofs.stream.builder.StreamBuilder.close_group.Goals as goal
@@ -19,7 +19,7 @@ overflow_sub-open c =
       arith,
       c.len.ensures,
       c.self.inside.entries.ok.0,
-      stands_before c.self.inside.entries.items c.self.inside.pending.items c.self.inside.trees c.self.invariant.0 c.in-Some.around.now c.in-Some.innermost.now last,
+      is_before c.self.inside.entries.items c.self.inside.pending.items c.self.inside.trees c.self.invariant.0 c.in-Some.around.now c.in-Some.innermost.now last,
     )
 
 pub overflow_sub-open-2 : goal.overflow_sub-open-2
@@ -29,13 +29,13 @@ overflow_sub-open-2 c =
       arith,
       c.len.ensures,
       c.self.inside.entries.ok.0,
-      stands_before c.self.inside.entries.items c.self.inside.pending.items c.self.inside.trees c.self.invariant.0 c.in-Some.around.now c.in-Some.innermost.now last,
+      is_before c.self.inside.entries.items c.self.inside.pending.items c.self.inside.trees c.self.invariant.0 c.in-Some.around.now c.in-Some.innermost.now last,
     )
 
 pub enclose-requires : goal.enclose-requires
 enclose-requires c =
     let last : c.self.inside.pending.items ≡ c.in-Some.around.now ++ c.in-Some.innermost.now ∷ [] = sym c.deref.ensures.value ∙ c.in-Some.ensures.cases.0 in
-    omega (arith, stands_before c.self.inside.entries.items c.self.inside.pending.items c.self.inside.trees c.self.invariant.0 c.in-Some.around.now c.in-Some.innermost.now last)
+    omega (arith, is_before c.self.inside.entries.items c.self.inside.pending.items c.self.inside.trees c.self.invariant.0 c.in-Some.around.now c.in-Some.innermost.now last)
 
 pub overflow_add-self : goal.overflow_add-self
 overflow_add-self c =
@@ -45,7 +45,7 @@ overflow_add-self c =
       c.self.inside.entries.ok.0,
       c.self.inside.entries.ok.1,
       c.self.inside.entries.small,
-      stands_before c.self.inside.entries.items c.self.inside.pending.items c.self.inside.trees c.self.invariant.0 c.in-Some.around.now c.in-Some.innermost.now last,
+      is_before c.self.inside.entries.items c.self.inside.pending.items c.self.inside.trees c.self.invariant.0 c.in-Some.around.now c.in-Some.innermost.now last,
       few_around c.self.inside.entries.items c.self.inside.pending.items c.self.inside.trees c.self.invariant.0 c.in-Some.around.now c.in-Some.innermost.now last,
     )
 

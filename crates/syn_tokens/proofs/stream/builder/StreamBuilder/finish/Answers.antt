@@ -12,4 +12,4 @@ into_stream-requires c =
 pub returns-in-Some : goal.returns-in-Some
 returns-in-Some c =
     let f = first_place _ c.in-Some.outermost.now c.in-Some.field-0-1.now (sym c.in-Some.ensures.cases.0 ∙ c.deref.ensures.value ∙ c.self.invariant.0.placed) in
-    (f.outermost, f.inside, ap (λ (b : Building). b.open_groups) (sym c.self.view_is) ∙ f.is, c.not_balanced.ensures ∙ ap unbalanced f.stands)
+    (f.outermost, f.inside, ap (λ (b : Building). b.open_groups) (sym c.self.view_is) ∙ f.is, c.not_balanced.ensures ∙ ap unbalanced f.present)

@@ -26,8 +26,8 @@ new-requires-in-Open-2 c =
     let e : c.self.inside.entries.now ≡ E.Open c.in-Open.open ∷ c.in_ok-first.rest.now = search rules in
     let cut : c.in_ok-first.rest.now ≡ c.in_ok-content-in-Open.content.now ++ E.Close c.in_ok-content-in-Open.close ∷ c.in_ok-content-in-Open.rest.now = search rules in
     let long : length c.in_ok-content-in-Open.content.now ≡ c.in-Open.open.skip = search rules in
-    let less : c.self.inside.trees - 1 ≡ c.saturating_sub-behind.result = search rules in
-    subst (IsFlat c.in_ok-content-in-Open.rest.now) less (found c.in-Open.open c.in_ok-first.rest.now c.self.inside.trees _ _ _ (subst (λ es. IsFlat es c.self.inside.trees) e c.self.invariant) cut long).behind
+    let less : c.self.inside.trees - 1 ≡ c.saturating_sub-following.result = search rules in
+    subst (IsFlat c.in_ok-content-in-Open.rest.now) less (found c.in-Open.open c.in_ok-first.rest.now c.self.inside.trees _ _ _ (subst (λ es. IsFlat es c.self.inside.trees) e c.self.invariant) cut long).following
 
 pub returns-in_ok-content-in-Open : goal.returns-in_ok-content-in-Open
 returns-in_ok-content-in-Open c =

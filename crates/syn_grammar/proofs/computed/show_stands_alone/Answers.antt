@@ -1,5 +1,0 @@
-use Rattle.syn_grammar.proofs.Shows as by
-use Rattle.syn_grammar.proofs.computed.show_stands_alone.Goals as goal
-
-pub returns : goal.returns
-returns c = record { as_the_same = by.show_stands_alone }
