@@ -44,8 +44,11 @@ FAMILIES = {
     "use_trees": Family("UseTree", "Of", "one", "tree", "list", "<UseTree>"),
 }
 
-# the recursive types that have copies, comparisons and prints of their own. The struct of a variant of `Pat` or `Expr` has none: it is
-# used as that `Pat` or `Expr`
+# Whether the struct of each variant of `Pat` and `Expr` has copies, comparisons and prints of its own too (27 types, 108 functions). Without
+# them it is used as that `Pat` or `Expr`.
+EACH_VARIANT = False
+
+# the recursive types that have them in any case
 ALONE = {"Block", "Expr", "Local", "LocalInit", "Pat", "PatType", "Stmt", "UseGroup", "UsePath", "UseTree"}
 
 # the fields of items and members that are never printed
@@ -70,7 +73,7 @@ def has_body(t):
 
 def is_alone(t):
     """Whether a type has copies, comparisons and prints of its own, beside the helpers of its family."""
-    return not (t.is_nested and FAMILIES[t.family].argument) or t.name in ALONE
+    return EACH_VARIANT or not (t.is_nested and FAMILIES[t.family].argument) or t.name in ALONE
 
 
 # lemmas that the parts of a recursive type are smaller than it, where computation doesn't show it

@@ -21,6 +21,7 @@ use syn_item::item::Item;
 use syn_item::sig::{Abi, FnArg, Receiver, Signature};
 use syn_item::simple::{
     ItemConst, ItemExternCrate, ItemMacro, ItemMod, ItemStatic, ItemTraitAlias, ItemType, ItemUse,
+    StaticMutability,
 };
 use syn_item::traits::{
     ItemTrait, TraitItem, TraitItemConst, TraitItemFn, TraitItemMacro, TraitItemType,
@@ -90,7 +91,7 @@ fn tree_as_1(
         "ItemUse" => answer::<ItemUse>(alloc, question, row),
         "Block" => answer::<Block>(alloc, question, row),
         "Stmt" => answer::<Stmt>(alloc, question, row),
-        "Abi" => answer::<Abi>(alloc, question, row),
+        "StaticMutability" => answer::<StaticMutability>(alloc, question, row),
         _ => tree_as_2(alloc, question, heading, word, row),
     }
 }
@@ -104,6 +105,7 @@ fn tree_as_2(
     row: &Row<'_>,
 ) -> Result<String, Failure> {
     match word {
+        "Abi" => answer::<Abi>(alloc, question, row),
         "TraitItemConst" => answer::<TraitItemConst>(alloc, question, row),
         "TraitItemFn" => answer::<TraitItemFn>(alloc, question, row),
         "TraitItemMacro" => answer::<TraitItemMacro>(alloc, question, row),
@@ -119,7 +121,6 @@ fn tree_as_2(
         "Macro" => answer::<Macro>(alloc, question, row),
         "Pat" => answer::<Pat>(alloc, question, row),
         "LifetimeParam" => answer::<LifetimeParam>(alloc, question, row),
-        "Path" => answer::<Path>(alloc, question, row),
         _ => tree_as_3(alloc, question, heading, word, row),
     }
 }
@@ -133,6 +134,7 @@ fn tree_as_3(
     row: &Row<'_>,
 ) -> Result<String, Failure> {
     match word {
+        "Path" => answer::<Path>(alloc, question, row),
         "ReturnType" => answer::<ReturnType>(alloc, question, row),
         "Type" => answer::<Type>(alloc, question, row),
         "TypeParamBound" => answer::<TypeParamBound>(alloc, question, row),

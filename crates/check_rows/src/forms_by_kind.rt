@@ -20,6 +20,7 @@ use syn_item::item::Item;
 use syn_item::sig::{Abi, FnArg, Receiver, Signature};
 use syn_item::simple::{
     ItemConst, ItemExternCrate, ItemMacro, ItemMod, ItemStatic, ItemTraitAlias, ItemType, ItemUse,
+    StaticMutability,
 };
 use syn_item::traits::{
     ItemTrait, TraitItem, TraitItemConst, TraitItemFn, TraitItemMacro, TraitItemType,
@@ -104,6 +105,7 @@ fn form_as_2(
         "Stmts" => form::<Stmts>(alloc, question, row),
         "SafeOrUnsafe" => form::<SafeOrUnsafe>(alloc, question, row),
         "UnsafeOnly" => form::<UnsafeOnly>(alloc, question, row),
+        "StaticMutability" => form::<StaticMutability>(alloc, question, row),
         "Abi" => form::<Abi>(alloc, question, row),
         "TraitItemConst" => form::<TraitItemConst>(alloc, question, row),
         "TraitItemFn" => form::<TraitItemFn>(alloc, question, row),
@@ -115,7 +117,6 @@ fn form_as_2(
         "ImplItemType" => form::<ImplItemType>(alloc, question, row),
         "ForeignItemFn" => form::<ForeignItemFn>(alloc, question, row),
         "ForeignItemMacro" => form::<ForeignItemMacro>(alloc, question, row),
-        "ForeignItemStatic" => form::<ForeignItemStatic>(alloc, question, row),
         _ => form_as_3(alloc, question, heading, word, row),
     }
 }
@@ -129,6 +130,7 @@ fn form_as_3(
     row: &Row<'_>,
 ) -> Result<String, Failure> {
     match word {
+        "ForeignItemStatic" => form::<ForeignItemStatic>(alloc, question, row),
         "ForeignItemType" => form::<ForeignItemType>(alloc, question, row),
         "Macro" => form::<Macro>(alloc, question, row),
         "Pat" => form::<Pat>(alloc, question, row),

@@ -18,7 +18,6 @@ use crate::question::{Heading, Question, TreeQuestion};
 use crate::row::Row;
 use std::alloc::Global;
 use syn::deferred::{DeferredBlock, DeferredConstant, DeferredItem};
-use syn::item::StaticMutability;
 use syn::lower::{BoundLifetimes, GenericParam, TraitBound, TraitBoundModifier, WhereClause};
 
 /// The result of the row as the kind of this word of the heading.
@@ -51,7 +50,6 @@ pub(crate) fn other_tree(
         "TraitBoundModifier" => answer::<TraitBoundModifier>(alloc, question, row),
         "BoundLifetimes" => answer::<BoundLifetimes>(alloc, question, row),
         "Option<WhereClause>" => answer::<Option<WhereClause>>(alloc, question, row),
-        "StaticMutability" => answer::<StaticMutability>(alloc, question, row),
         "DeferredBlock" => answer::<DeferredBlock>(alloc, question, row),
         "DeferredItem" => answer::<DeferredItem>(alloc, question, row),
         "Deferred<Constant>" => answer::<DeferredConstant>(alloc, question, row),

@@ -19,6 +19,7 @@ use syn_item::item::Item;
 use syn_item::sig::{Abi, FnArg, Receiver, Signature};
 use syn_item::simple::{
     ItemConst, ItemExternCrate, ItemMacro, ItemMod, ItemStatic, ItemTraitAlias, ItemType, ItemUse,
+    StaticMutability,
 };
 use syn_item::traits::{
     ItemTrait, TraitItem, TraitItemConst, TraitItemFn, TraitItemMacro, TraitItemType,
@@ -86,6 +87,7 @@ fn answer_as_2(kind: &str, tokens: &TokenStream) -> Result<Answer, Failure> {
         "Stmts" => answer_of::<Stmts>(Rule::STATEMENTS, tokens),
         "SafeOrUnsafe" => answer_of::<SafeOrUnsafe>(Rule::SAFE_OR_UNSAFE, tokens),
         "UnsafeOnly" => answer_of::<UnsafeOnly>(Rule::UNSAFE_ONLY, tokens),
+        "StaticMutability" => answer_of::<StaticMutability>(Rule::STATIC_MUTABILITY, tokens),
         "Abi" => answer_of::<Abi>(Rule::ABI, tokens),
         "TraitItemConst" => answer_of::<TraitItemConst>(Rule::TRAIT_CONST, tokens),
         "TraitItemFn" => answer_of::<TraitItemFn>(Rule::TRAIT_FUNCTION, tokens),
@@ -97,7 +99,6 @@ fn answer_as_2(kind: &str, tokens: &TokenStream) -> Result<Answer, Failure> {
         "ImplItemType" => answer_of::<ImplItemType>(Rule::IMPL_TYPE, tokens),
         "ForeignItemFn" => answer_of::<ForeignItemFn>(Rule::FOREIGN_FUNCTION, tokens),
         "ForeignItemMacro" => answer_of::<ForeignItemMacro>(Rule::FOREIGN_MACRO, tokens),
-        "ForeignItemStatic" => answer_of::<ForeignItemStatic>(Rule::FOREIGN_STATIC, tokens),
         _ => answer_as_3(kind, tokens),
     }
 }
@@ -105,6 +106,7 @@ fn answer_as_2(kind: &str, tokens: &TokenStream) -> Result<Answer, Failure> {
 /// The same of further kinds.
 fn answer_as_3(kind: &str, tokens: &TokenStream) -> Result<Answer, Failure> {
     match kind {
+        "ForeignItemStatic" => answer_of::<ForeignItemStatic>(Rule::FOREIGN_STATIC, tokens),
         "ForeignItemType" => answer_of::<ForeignItemType>(Rule::FOREIGN_TYPE, tokens),
         "Macro" => answer_of::<Macro>(Rule::MACRO_INVOCATION, tokens),
         "Pat" => answer_of::<Pat>(Rule::PATTERN, tokens),

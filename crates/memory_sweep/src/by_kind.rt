@@ -22,6 +22,7 @@ use syn_item::item::Item;
 use syn_item::sig::{Abi, FnArg, Receiver, Signature};
 use syn_item::simple::{
     ItemConst, ItemExternCrate, ItemMacro, ItemMod, ItemStatic, ItemTraitAlias, ItemType, ItemUse,
+    StaticMutability,
 };
 use syn_item::traits::{
     ItemTrait, TraitItem, TraitItemConst, TraitItemFn, TraitItemMacro, TraitItemType,
@@ -84,6 +85,7 @@ fn of_others(word: &str, input: &Input<'_>, tally: &mut Tally) -> Result<(), Fai
     match word {
         "SafeOrUnsafe" => as_canonical::<SafeOrUnsafe, InField>(input, tally),
         "UnsafeOnly" => as_canonical::<UnsafeOnly, InField>(input, tally),
+        "StaticMutability" => as_canonical::<StaticMutability, ByItself>(input, tally),
         "Abi" => as_canonical::<Abi, ByItself>(input, tally),
         "TraitItemConst" => as_canonical::<TraitItemConst, ByItself>(input, tally),
         "TraitItemFn" => as_canonical::<TraitItemFn, ByItself>(input, tally),

@@ -18,6 +18,7 @@ use syn_item::item::Item;
 use syn_item::sig::{Abi, FnArg, Receiver, Signature};
 use syn_item::simple::{
     ItemConst, ItemExternCrate, ItemMacro, ItemMod, ItemStatic, ItemTraitAlias, ItemType, ItemUse,
+    StaticMutability,
 };
 use syn_item::traits::{
     ItemTrait, TraitItem, TraitItemConst, TraitItemFn, TraitItemMacro, TraitItemType,
@@ -198,6 +199,15 @@ impl Named for Stmts {}
 impl Named for SafeOrUnsafe {}
 
 impl Named for UnsafeOnly {}
+
+impl Named for StaticMutability {
+    fn variant(&self) -> &'static str {
+        match self {
+            StaticMutability::Mut(_) => "Mut",
+            StaticMutability::None => "None",
+        }
+    }
+}
 
 impl Named for Abi {}
 

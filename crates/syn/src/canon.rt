@@ -1,10 +1,11 @@
 //! Canonical prints, and whether two streams have the same.
-ghost use Rattle.syn.specs.Canonical.{CanonicalOutcome, SameFormOutcome};
+ghost use Rattle.syn_answers.specs.Canonical.{CanonicalOutcome, CanonicalOfOutcome, SameFormOutcome, SameFormOfOutcome, StillCanonicalVisible};
 ghost use Rattle.syn_tokens.specs.Faults.{IsSyntaxError};
 
 mod wrappers;
 
 pub use crate::lawful::Canonical;
+pub use syn_answers::answers::join_items;
 pub use syn_item::sig::{SafeOrUnsafe, UnsafeOnly};
 use syn_tokens::error::Result;
 use syn_tokens::print::ToTokens;
@@ -16,8 +17,13 @@ pub use wrappers::{NamedField, Stmts, UnnamedField};
 ///
 /// It is refused as `T`'s parser refuses the stream, at the same place, and where something is left over; else only where
 /// memory is. The stream is used up, whatever the result.
+///
+/// The clause `returned` says the same of the tree that `parse2` returns. Everything accepted before `const` traits and
+/// impls is still accepted (`still_derives`), and its print is unchanged where it has none of them (`lift_keeps`).
 pub fn canonical<T: Canonical + Drop>(tokens: TokenStream) -> Result<TokenStream>
     ensures canonical { CanonicalOutcome IsSyntaxError T.rule tokens result }
+    ensures returned { CanonicalOfOutcome IsSyntaxError T.syntax T.rule tokens result }
+    ensures grown { StillCanonicalVisible IsSyntaxError T.rule tokens result }
 {
     let alloc = tokens.alloc();
     let tree: T = parse2(tokens)?;
@@ -30,8 +36,11 @@ pub fn canonical<T: Canonical + Drop>(tokens: TokenStream) -> Result<TokenStream
 /// are equal, which is whether their canonical prints are, spans aside.
 ///
 /// It is refused where one of them is no `T`, or where memory is refused. Both streams are used up, whatever the result.
+///
+/// The clause `returned` says the same of the trees that `parse2` returns.
 pub fn same_form<T: Canonical + Drop>(left: TokenStream, right: TokenStream) -> Result<bool>
     ensures same_form { SameFormOutcome IsSyntaxError T.rule left right result }
+    ensures returned { SameFormOfOutcome IsSyntaxError T.syntax T.rule left right result }
 {
     let alloc = left.alloc();
     let left_tree: T = parse2(left)?;

@@ -18,6 +18,7 @@ use syn_item::item::Item;
 use syn_item::sig::{Abi, FnArg, Receiver, Signature};
 use syn_item::simple::{
     ItemConst, ItemExternCrate, ItemMacro, ItemMod, ItemStatic, ItemTraitAlias, ItemType, ItemUse,
+    StaticMutability,
 };
 use syn_item::traits::{
     ItemTrait, TraitItem, TraitItemConst, TraitItemFn, TraitItemMacro, TraitItemType,
@@ -243,6 +244,12 @@ impl Canonical for SafeOrUnsafe {
 
 impl Canonical for UnsafeOnly {
     ghost rule = { rules.unsafe_only };
+
+    ghost reads_rule = { refl };
+}
+
+impl Canonical for StaticMutability {
+    ghost rule = { rules.static_mutability };
 
     ghost reads_rule = { refl };
 }

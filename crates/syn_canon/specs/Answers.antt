@@ -1,5 +1,5 @@
 -- WHAT THE PROGRAM PRINTS.
-use Rattle.std.specs.Prelude.{◌≡◌, ◌⊎◌, ℕ, List, ◌++◌, length, codes, Option, IfSome, String}
+use Rattle.std.specs.Prelude.{◌≡◌, ◌⊎◌, ℕ, true, List, ◌++◌, length, codes, Option, IfSome, String}
 use Rattle.std.specs.Str.{IsUtf8}
 use Rattle.std.specs.Io.KnownBytes.{Appends}
 use Rattle.std.specs.declared.alloc.Global.{Global}
@@ -9,6 +9,7 @@ use Rattle.syn_grammar.specs.Grammar.{Syntax}
 use Rattle.syn_grammar.specs.Laws.{Derives}
 use Rattle.syn_grammar.specs.Promises as grammar
 use Rattle.syn_tokens.specs.Faults.{FaultValue, IsSyntaxError}
+use Rattle.syn_reader.specs.Refusals as reader
 use Rattle.syn_reader.specs.Spelling.{Spells, IsFaultWithin}
 use Rattle.syn_reader.specs.Texts.{text_of}
 use Rattle.syn_answers.specs.Canonical.{IsCanonical}
@@ -19,7 +20,7 @@ use Rattle.syn_canon.specs.declared.failure.Failure.TheVariants.{Usage, ReadFail
 use Rattle.syn_canon.specs.Kinds.{rule_of}
 use Rattle.syn_canon.specs.Lines.{IsListed}
 use Rattle.syn_canon.specs.Words.{IsCommand, NoCommand}
-use Rattle.syn_canon.specs.Statuses.{status_of, line_of}
+use Rattle.syn_canon.specs.Statuses.{is_decided, status_of, line_of}
 
 -- THE GRAMMAR
 
@@ -75,10 +76,10 @@ IsUnread known ReadFailed = Unit {0}
 IsUnread known OutOfMemory = Unit {0}
 IsUnread known _ = ⊥
 
--- The reader of text found one fault, whose place is in the text (when it does is not specified here), or the text spells a stream from
--- which the rule derives no tree.
+-- The text can't be cut into tokens or its groups don't match: the reader's fault says where and why. Or it spells a stream from which the
+-- rule derives no tree.
 abbrev pub IsRefusal : Rule → List ℕ → List FaultValue → Type 0
-IsRefusal rule text faults = IsFaultWithin (length text) faults ⊎ ((stream : Stream) × Spells text stream × grammar.Refused rule stream)
+IsRefusal rule text faults = (IsFaultWithin (length text) faults × reader.IsRefusal text faults) ⊎ ((stream : Stream) × Spells text stream × grammar.Refused rule stream)
 
 -- why there is no output: the words are no command, or no text is read, or the text is refused
 abbrev pub IsNoAnswer : List (String Global) → Option (List ℕ) → Failure → Type 0
@@ -94,6 +95,14 @@ pub record IsDone (words : List (String Global)) (known old new : Option (List �
   pub answer : List ℕ
   pub is_answer : IsAnswer words known answer
   pub is_written : Appends old new answer
+
+-- There is no output, for a reason that the words and the text alone decide: the words are no command, the bytes are no UTF-8, or the text
+-- is refused.
+pub record IsDecided (words : List (String Global)) (known : Option (List ℕ)) (status : ℕ) : Type 0 where
+  pub failure : Failure
+  pub decided : is_decided failure ≡ true
+  pub is_no_answer : IsNoAnswer words known failure
+  pub is_status : status ≡ status_of failure
 
 -- why a run has failed: there is no output, or a write failed
 abbrev pub IsUndone : List (String Global) → Option (List ℕ) → Failure → Type 0

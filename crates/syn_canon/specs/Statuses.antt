@@ -1,5 +1,5 @@
 -- HOW THE PROGRAM ENDS WITHOUT OUTPUT.
-use Rattle.std.specs.Prelude.{ℕ, List, [], ◌∷◌, ◌++◌, codes}
+use Rattle.std.specs.Prelude.{ℕ, Bool, true, false, List, [], ◌∷◌, ◌++◌, codes}
 use Rattle.std.specs.Fmt.{decimal}
 use Rattle.syn_tokens.specs.Faults.{FaultValue}
 use Rattle.syn_canon.specs.declared.failure.Failure.{Failure}
@@ -13,6 +13,15 @@ status_of NotUtf8 = 1
 status_of (Refused e) = 1
 status_of WriteFailed = 1
 status_of OutOfMemory = 3
+
+-- the words and the text alone decide it: no memory was refused, and no read or write failed
+abbrev pub is_decided : Failure → Bool
+is_decided Usage = true
+is_decided ReadFailed = false
+is_decided NotUtf8 = true
+is_decided (Refused e) = true
+is_decided WriteFailed = false
+is_decided OutOfMemory = false
 
 -- the line that is written, without its newline
 abbrev pub line_of : Failure → List ℕ

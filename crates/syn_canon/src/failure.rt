@@ -1,7 +1,7 @@
 //! Why the program ends without output.
 ghost use Rattle.std.specs.Prelude.{◌≡◌, ◌≢◌};
 ghost use Rattle.std.specs.IoError.{error_kind};
-ghost use Rattle.syn_canon.specs.Statuses.{status_of, failure_of};
+ghost use Rattle.syn_canon.specs.Statuses.{is_decided, status_of, failure_of};
 ghost use Rattle.syn_canon.specs.declared.failure.Failure.TheVariants.{OutOfMemory};
 
 use std::alloc::{AllocError, AllocFailed};
@@ -43,6 +43,16 @@ impl Failure {
                 1,
             Failure::Usage => 2,
             Failure::OutOfMemory => 3,
+        }
+    }
+
+    /// Whether the words and the text alone decide it: no memory was refused, and no read or write failed.
+    pub(crate) fn is_decided(&self) -> bool
+        ensures { result ≡ is_decided self.now }
+    {
+        match self {
+            Failure::Usage | Failure::NotUtf8 | Failure::Refused(_) => true,
+            Failure::ReadFailed | Failure::WriteFailed | Failure::OutOfMemory => false,
         }
     }
 }

@@ -2,11 +2,11 @@
 //! `syn_canon list`, with the text on standard input.
 #![tactic(auto)]
 
-ghost use Rattle.std.specs.Prelude.{◌≡◌, ◌≢◌, ◌≤◌, ◌↔◌, ◌⊎◌, [], ◌++◌, true, codes, Err, OnOk, IfErr};
+ghost use Rattle.std.specs.Prelude.{◌≡◌, ◌≢◌, ◌≤◌, ◌↔◌, ◌⊎◌, [], ◌++◌, false, true, codes, Err, OnOk, IfErr};
 ghost use Rattle.std.specs.Io.KnownBytes.{Appends};
 ghost use Rattle.syn_canon.specs.Words.{NoCommand};
-ghost use Rattle.syn_canon.specs.Answers.{IsDone, IsUndone, IsReported};
-ghost use Rattle.syn_canon.specs.Statuses.{status_of, line_of};
+ghost use Rattle.syn_canon.specs.Answers.{IsDecided, IsDone, IsUndone, IsReported};
+ghost use Rattle.syn_canon.specs.Statuses.{is_decided, status_of, line_of};
 ghost use Rattle.syn_canon.specs.declared.failure.Failure.TheVariants.{Usage, WriteFailed, OutOfMemory};
 
 mod answer;
@@ -31,12 +31,18 @@ pub struct Exit {
     /// The exit status: 0 where the whole output was written, 1 where the input was refused, or a read or a write failed, 2 where the words
     /// are no command, and 3 where memory was refused.
     pub status: u8,
+    /// Whether the words and the text alone decide how the run ends: false where memory was refused, or a read or a write failed.
+    pub is_decided: bool,
     /// Whether the line of a failure was written whole, and flushed. True where there was none to write.
     pub is_reported: bool,
 }
 
 /// Runs the command that the words after the program's name denote on the text in `input`. Writes to `output` only once the whole output is
 /// computed; on failure, writes one line with the reason to `faults`. A failed write of this line changes no status.
+///
+/// If no request for memory, no read and no write fails, the output is written exactly where the rule of the command derives a tree from the
+/// tokens of the text: `done` says what is written, and `decided` why nothing is.
+#[tactic(auto, using(crate::proofs::Refusals::decided_of, crate::proofs::Refusals::aside_of))]
 pub fn run<R: Read, W: Output, V: Output>(
     alloc: Global,
     words: &[String],
@@ -48,6 +54,8 @@ pub fn run<R: Read, W: Output, V: Output>(
     ensures usage { (result.status ≡ 2) ↔ NoCommand words.now }
     ensures done { result.status ≡ 0 → IsDone words.now (R.remaining input.old) (W.contents output.old) (W.contents output.new) }
     ensures flushed { result.status ≡ 0 → W.pending output.new ≡ [] }
+    ensures decided { result.is_decided ≡ true → result.status ≢ 0 → IsDecided words.now (R.remaining input.old) result.status }
+    ensures aside { result.is_decided ≡ false → (result.status ≡ 1) ⊎ (result.status ≡ 3) }
     ensures quiet { result.status ≡ 0 → faults.new ≡ faults.old }
     ensures reported { result.is_reported ≡ true → result.status ≢ 0 → IsReported words.now (R.remaining input.old) result.status (V.contents faults.old) (V.contents faults.new) }
     ensures known_flushed { result.is_reported ≡ true → result.status ≢ 0 → V.pending faults.new ≡ [] }
@@ -57,6 +65,7 @@ pub fn run<R: Read, W: Output, V: Output>(
     match carry_out(alloc, words, input, output) {
         Ok(()) => Exit {
             status: 0,
+            is_decided: true,
             is_reported: true,
         },
         Err(failure) => report(faults, &failure),
@@ -96,12 +105,14 @@ fn write_whole<W: Output>(output: &mut W, text: &str) -> io::Result<()>
 /// Writes the failure's line, and returns its status, even if the line can't be written.
 fn report<V: Output>(faults: &mut V, failure: &Failure) -> Exit
     ensures status { result.status ≡ status_of failure.now }
+    ensures decided { result.is_decided ≡ is_decided failure.now }
     ensures reported { result.is_reported ≡ true → Appends (V.contents faults.old) (V.contents faults.new) (line_of failure.now ++ codes "\n") }
     ensures flushed { result.is_reported ≡ true → V.pending faults.new ≡ [] }
 {
     let is_reported = write_line(faults, failure).is_ok();
     Exit {
         status: failure.status(),
+        is_decided: failure.is_decided(),
         is_reported,
     }
 }

@@ -3,11 +3,12 @@
 use Rattle.std.proofs.Common.{true, false, [], ◌∷◌, refl}
 use Rattle.syn_grammar.specs.Words.{w_underscore, w_as, w_const, w_crate, w_extern, w_fn, w_mod, w_mut, w_pub, w_Self_type, w_self, w_static, w_super, w_trait, w_try, w_type, w_unsafe, w_use, w_where, w_default}
 use Rattle.syn_grammar.specs.Tokens.{call_site, Paren, Brace, Bracket, Int, ident, literal, end, leaf, punct, group}
-use Rattle.syn_grammar.specs.Rules.{crate_macro, brace_macro, crate_macro_item, const_item, const_item_rest, static_item, static_item_rest, extern_crate, extern_crate_rest, use_tree, use_trees, root_mark, rooted_tree, rooted_trees, use_item, use_item_rest, rooted_use, module_item, module_item_rest, alias_bounds, type_bounds, alias, trait_alias, trait_alias_rest, type_item, type_item_rest, macro_end, macro_item, macro_item_rest, macro_as_item, macro_as_item_rest}
+use Rattle.syn_grammar.specs.Rules.{crate_macro, brace_macro, crate_macro_item, const_item, const_item_rest, static_mutability, static_item, static_item_rest, extern_crate, extern_crate_rest, use_tree, use_trees, root_mark, rooted_tree, rooted_trees, use_item, use_item_rest, rooted_use, module_item, module_item_rest, alias_bounds, type_bounds, alias, trait_alias, trait_alias_rest, type_item, type_item_rest, macro_end, macro_item, macro_item_rest, macro_as_item, macro_as_item_rest}
 use Rattle.syn_grammar.specs.Grammar.{rule}
 use Rattle.syn_grammar.specs.Take.{left, is_end, lookahead_at, sees, take_token, take_lifetime, take_mark, take_group, before, first_span}
 use Rattle.syn_grammar.specs.Run.{rows_for, rows, run, parse_rule}
-use Rattle.syn_grammar.specs.Promises.{NotDerived}
+use Rattle.syn_grammar.specs.Promises.{Refused, NotDerived}
+use Rattle.syn_grammar.proofs.Means.{not_derived}
 use Rattle.syn_grammar.proofs.Shown.{at, DerivesAs, computed, not_read}
 
 -- `#[a] pub const b: c = d;` prints `# [a] pub const b : c = d ;`
@@ -51,6 +52,52 @@ const_rest_no_type : NotDerived (rule const_item_rest)
     (leaf (ident w_const) (at 0 5) (leaf (ident (97 ∷ [])) (at 6 7) (punct 61 false (at 8 9) (leaf (literal Int (49 ∷ [])) (at 10 11) (punct 59 false (at 11 12) end)))))
 unfolding left is_end lookahead_at sees take_token take_lifetime take_mark take_group before rows_for rows run parse_rule
 const_rest_no_type = not_read const_item_rest _ refl
+
+-- `mut` prints `mut`
+static_mutability_mut : DerivesAs static_mutability
+    (leaf (ident w_mut) (at 0 3) end)
+    (leaf (ident w_mut) call_site end)
+    (end)
+unfolding left is_end lookahead_at sees take_token take_lifetime take_mark take_group before rows_for rows run parse_rule
+static_mutability_mut = computed static_mutability _ _ _ refl
+
+-- `const` prints `` and leaves `const`
+static_mutability_none : DerivesAs static_mutability
+    (leaf (ident w_const) (at 0 5) end)
+    (end)
+    (leaf (ident w_const) (at 0 5) end)
+unfolding left is_end lookahead_at sees take_token take_lifetime take_mark take_group before rows_for rows run parse_rule
+static_mutability_none = computed static_mutability _ _ _ refl
+
+-- `a` prints `` and leaves `a`
+static_mutability_name : DerivesAs static_mutability
+    (leaf (ident (97 ∷ [])) (at 0 1) end)
+    (end)
+    (leaf (ident (97 ∷ [])) (at 0 1) end)
+unfolding left is_end lookahead_at sees take_token take_lifetime take_mark take_group before rows_for rows run parse_rule
+static_mutability_name = computed static_mutability _ _ _ refl
+
+-- no tokens prints ``
+static_mutability_empty : DerivesAs static_mutability
+    (end)
+    (end)
+    (end)
+unfolding left is_end lookahead_at sees take_token take_lifetime take_mark take_group before rows_for rows run parse_rule
+static_mutability_empty = computed static_mutability _ _ _ refl
+
+-- `mut mut` prints `mut` and leaves `mut`
+static_mutability_left : DerivesAs static_mutability
+    (leaf (ident w_mut) (at 0 3) (leaf (ident w_mut) (at 4 7) end))
+    (leaf (ident w_mut) call_site end)
+    (leaf (ident w_mut) (at 4 7) end)
+unfolding left is_end lookahead_at sees take_token take_lifetime take_mark take_group before rows_for rows run parse_rule
+static_mutability_left = computed static_mutability _ _ _ refl
+
+-- `const` is refused
+static_mutability_whole : Refused static_mutability
+    (leaf (ident w_const) (at 0 5) end)
+unfolding left is_end lookahead_at sees take_token take_lifetime take_mark take_group before rows_for rows run parse_rule
+static_mutability_whole = not_derived static_mutability _ refl
 
 -- `#[a] static mut b: c = d;` prints `# [a] static mut b : c = d ;`
 static_whole : DerivesAs static_item

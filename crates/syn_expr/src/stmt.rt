@@ -44,8 +44,8 @@ pub enum Stmt {
 #[derive(Drop)]
 pub struct Local {
     pub attrs: Vec<Attribute>,
-    pub modifiers: LocalModifiers,
     pub let_token: Let,
+    pub modifiers: LocalModifiers,
     pub pat: Pat,
     pub init: Option<LocalInit>,
     pub semi_token: Semi,

@@ -705,8 +705,8 @@ impl Trees for ExprTrees {
     {
         Stmt::Local(Local {
             attrs,
-            modifiers: LocalModifiers {},
             let_token,
+            modifiers: LocalModifiers {},
             pat,
             init,
             semi_token: semi,

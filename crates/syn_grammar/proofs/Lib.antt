@@ -34,6 +34,7 @@ pub mod Shown
 pub mod Shapes
 pub mod Same
 pub mod PlainValues
+pub mod ValueForms
 pub mod Alone
 pub mod Fades
 pub mod Cut

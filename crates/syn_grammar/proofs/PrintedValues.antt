@@ -8,7 +8,7 @@ use Rattle.syn_grammar.specs.Run.{value_of}
 use Rattle.syn_grammar.proofs.Shapes.{sum_shape, show_sum, renew_shape, is_shaped, shape_apart}
 
 -- without how captured tokens were read
-abbrev bleach : Syntax → Syntax
+abbrev pub bleach : Syntax → Syntax
 bleach (Both s t) = Both (bleach s) (bleach t)
 bleach (Left s) = Left (bleach s)
 bleach (Right s) = Right (bleach s)
@@ -82,7 +82,7 @@ bleach_led_part _ = refl
 bleach_led : (s : Syntax) → led (bleach s) ≡ led s
 bleach_led s = ap₂ (λ v z. or (present at_generics v) z) (bleach_show s) (bleach_led_part s)
 
-bleach_renew : (s : Syntax) → renew (value_of s) ≡ bleach (renew s)
+pub bleach_renew : (s : Syntax) → renew (value_of s) ≡ bleach (renew s)
 bleach_renew (Both s t) = ap₂ Both (bleach_renew s) (bleach_renew t)
 bleach_renew (Left s) = ap Left (bleach_renew s)
 bleach_renew (Right s) = ap Right (bleach_renew s)

@@ -3,7 +3,7 @@
 use Rattle.std.proofs.Common.{◌≡◌, Bool, true, false, [], ◌∷◌, refl, sym, true≢false}
 use Rattle.syn_grammar.specs.Words.{w_underscore, w_as, w_async, w_break, w_const, w_continue, w_crate, w_else, w_enum, w_extern, w_false, w_fn, w_for, w_if, w_impl, w_in, w_let, w_loop, w_macro, w_mod, w_mut, w_pub, w_ref, w_return, w_Self_type, w_self, w_static, w_struct, w_super, w_trait, w_true, w_try, w_type, w_unsafe, w_use, w_where, w_while, w_union, w_auto, w_default, w_safe, semicolon, colon, equals, plus, star, less, greater, pound, ampersand, question, lifetime_mark, exclamation, minus, dot, colons, arrow, equal_equal, not_equals, less_less, less_equals, bar, slash, percent, and_and, or_or, greater_greater, greater_equals, plus_equals, minus_equals, star_equals, slash_equals, percent_equals, caret_equals, ampersand_equals, bar_equals, less_less_equals, greater_greater_equals, dots, ellipsis, caret}
 use Rattle.syn_grammar.specs.Tokens.{Paren, Brace, Bracket, None, Str, ByteStr, CStr, Byte, Char, Int, Float, Ended, Name, Word, Punctuation, Literal, Delimited, Before_equals, Before_end, Before_colons, Before_paren, Before_less, Before_type_rest, Before_parameter, Begins_item, Bang_brace, Bang_name, Before_macro, Before_brace, ended, at_name, at_word, at_mark, at_literal, at_empty_group, ahead, ◌or_else◌, ◌and_also◌, ◌but_not◌, at_lifetime, at_path_rest}
-use Rattle.syn_grammar.specs.Rules.{Rule, attributes, inner_attributes, meta, unsafe_path, unsafe_word, meta_value, module_path, module_words, visibility, restriction, type_path, type_words, more_type_words, type_arguments, return_type, generic_arguments, generic_argument, qualified_path, path_as_type, type, types, constant, generics, lifetime_parameter, lifetimes, parameter_bounds, bound, trait_bound, bound_lifetimes, lifetime_parameters, where_clause, predicates, predicate, predicate_bounds, fields_named, named_fields, named_field, nameless_fields, unnamed_field, unnamed_fields, fields_unnamed, variant, variants, structure, structure_rest, structure_body, enumeration, enumeration_rest, union_item, union_item_rest, derive_input, expression_path, expression_words, qualified_expression_path, path_as_expression, macro_invocation, pattern, patterns, expressions, array_content, block, body, plain_body, no_inner_attributes, primary, literal_fields, literal_field, block_like, if_expression, loop_expression, postfixes, member, unary, casts, cast, products, product, sums, sum, shifts, shift, bit_ands, bit_and, bit_xors, bit_xor, bit_ors, bit_or, compared, comparison, conjunctions, conjunction, disjunctions, disjunction, assigned, whole_expression, primary_head, unary_head, cast_head, products_head, product_head, sums_head, sum_head, shifts_head, shift_head, bit_ands_head, bit_and_head, bit_xors_head, bit_xor_head, bit_ors_head, bit_or_head, compared_head, comparison_head, conjunctions_head, conjunction_head, disjunctions_head, disjunction_head, assigned_head, whole_expression_head, operand_rest, statements, statement_rest, after_block, after_expression, statement, crate_macro, brace_macro, crate_macro_item, statement_end, local, no_attributes, receiver, receiver_rest, argument, inputs, later_inputs, input_rest, variadic, abi, unsafe_only, safe_or_unsafe, signature, signature_rest, function, function_rest, const_item, const_item_rest, static_item, static_item_rest, extern_crate, extern_crate_rest, use_tree, use_trees, root_mark, rooted_tree, rooted_trees, use_item, use_item_rest, rooted_use, module_item, module_item_rest, alias_bounds, type_bounds, alias, trait_alias, trait_alias_rest, type_item, type_item_rest, macro_end, macro_item, macro_item_rest, macro_as_item, macro_as_item_rest, bodiless_function, untyped_static, valueless_static, odd_const, macro_definition, odd_type, supertraits, bare_trait, trait_definition, trait_definition_rest, const_alias, restricted_trait, self_type, for_self_type, impl_body, impl_definition, impl_definition_rest, odd_impl, visible_const_impl, const_trait, const_impl, odd_const_impl, foreign_module, foreign_module_rest, member_macro, bare_trait_function, bare_trait_type, trait_const, trait_function, trait_type, trait_macro, trait_macro_as_item, any_const, marked_member, odd_trait_const, kept_trait_item, trait_item, trait_items, impl_const, impl_function, impl_type, impl_macro, impl_macro_as_item, bodiless_impl_function, odd_impl_const, odd_impl_type, kept_impl_item, impl_item, impl_items, foreign_signature, bare_foreign_static, foreign_function, foreign_static, foreign_type, foreign_macro, foreign_macro_as_item, foreign_body, foreign_value, odd_foreign_type, kept_foreign_item, foreign_item, foreign_items, kept_item_rest, kept_item, kept_in_block, item_rest, item, items, file}
+use Rattle.syn_grammar.specs.Rules.{Rule, attributes, inner_attributes, meta, unsafe_path, unsafe_word, meta_value, module_path, module_words, visibility, restriction, type_path, type_words, more_type_words, type_arguments, return_type, generic_arguments, generic_argument, qualified_path, path_as_type, type, types, constant, generics, lifetime_parameter, lifetimes, parameter_bounds, bound, trait_bound, bound_lifetimes, lifetime_parameters, where_clause, predicates, predicate, predicate_bounds, fields_named, named_fields, named_field, nameless_fields, unnamed_field, unnamed_fields, fields_unnamed, variant, variants, structure, structure_rest, structure_body, enumeration, enumeration_rest, union_item, union_item_rest, derive_input, expression_path, expression_words, qualified_expression_path, path_as_expression, macro_invocation, pattern, patterns, expressions, array_content, block, body, plain_body, no_inner_attributes, primary, literal_fields, literal_field, block_like, if_expression, loop_expression, postfixes, member, unary, casts, cast, products, product, sums, sum, shifts, shift, bit_ands, bit_and, bit_xors, bit_xor, bit_ors, bit_or, compared, comparison, conjunctions, conjunction, disjunctions, disjunction, assigned, whole_expression, primary_head, unary_head, cast_head, products_head, product_head, sums_head, sum_head, shifts_head, shift_head, bit_ands_head, bit_and_head, bit_xors_head, bit_xor_head, bit_ors_head, bit_or_head, compared_head, comparison_head, conjunctions_head, conjunction_head, disjunctions_head, disjunction_head, assigned_head, whole_expression_head, operand_rest, statements, statement_rest, after_block, after_expression, statement, crate_macro, brace_macro, crate_macro_item, statement_end, local, no_attributes, receiver, receiver_rest, argument, inputs, later_inputs, input_rest, variadic, abi, unsafe_only, safe_or_unsafe, signature, signature_rest, function, function_rest, const_item, const_item_rest, static_mutability, static_item, static_item_rest, extern_crate, extern_crate_rest, use_tree, use_trees, root_mark, rooted_tree, rooted_trees, use_item, use_item_rest, rooted_use, module_item, module_item_rest, alias_bounds, type_bounds, alias, trait_alias, trait_alias_rest, type_item, type_item_rest, macro_end, macro_item, macro_item_rest, macro_as_item, macro_as_item_rest, bodiless_function, untyped_static, valueless_static, odd_const, macro_definition, odd_type, supertraits, bare_trait, trait_definition, trait_definition_rest, const_alias, restricted_trait, self_type, for_self_type, impl_body, impl_definition, impl_definition_rest, odd_impl, visible_const_impl, const_trait, const_impl, odd_const_impl, foreign_module, foreign_module_rest, member_macro, bare_trait_function, bare_trait_type, trait_const, trait_function, trait_type, trait_macro, trait_macro_as_item, any_const, marked_member, odd_trait_const, kept_trait_item, trait_item, trait_items, impl_const, impl_function, impl_type, impl_macro, impl_macro_as_item, bodiless_impl_function, odd_impl_const, odd_impl_type, kept_impl_item, impl_item, impl_items, foreign_signature, bare_foreign_static, foreign_function, foreign_static, foreign_type, foreign_macro, foreign_macro_as_item, foreign_body, foreign_value, odd_foreign_type, kept_foreign_item, foreign_item, foreign_items, kept_item_rest, kept_item, kept_in_block, item_rest, item, items, file}
 use Rattle.syn_grammar.specs.Table.{at_colons, at_colon, at_equals, at_comma, at_semicolon, at_pound, at_inner_attribute, at_plus, at_less, at_less_only, at_greater, at_question, at_arrow, at_paren, at_brace, at_bracket, at_arguments, at_restriction, at_parameter_end, at_predicate_end, at_bang, at_dot, at_postfix_mark, at_turbofish, at_whole_expression, at_unfinished, at_star_operator, at_slash_operator, at_percent_operator, at_plus_operator, at_minus_operator, at_less_less_operator, at_greater_greater_operator, at_ampersand_operator, at_caret_operator, at_bar_operator, at_less_operator, at_greater_operator, at_equals_operator, at_where, at_safety, at_alias_bounds_end, at_type_bounds_end, at_supertraits_end, table}
 use Rattle.syn_grammar.proofs.FirstSets.{Start, IsSaid}
 use Rattle.syn_grammar.proofs.NeverFollow.{IsOff}
@@ -161,6 +161,7 @@ start_of function = record { first_set = Punctuation pound ∷ Delimited None tr
 start_of function_rest = record { first_set = Delimited None true ∷ Word w_pub ∷ Word w_async ∷ Word w_const ∷ Word w_extern ∷ Word w_fn ∷ Word w_unsafe ∷ []; nullable = false; never_follow = [] }
 start_of const_item = record { first_set = Punctuation pound ∷ Delimited None true ∷ Word w_const ∷ Word w_pub ∷ []; nullable = false; never_follow = [] }
 start_of const_item_rest = record { first_set = Delimited None true ∷ Word w_pub ∷ Word w_const ∷ []; nullable = false; never_follow = [] }
+start_of static_mutability = record { first_set = Word w_mut ∷ []; nullable = true; never_follow = [] }
 start_of static_item = record { first_set = Punctuation pound ∷ Delimited None true ∷ Word w_pub ∷ Word w_static ∷ []; nullable = false; never_follow = [] }
 start_of static_item_rest = record { first_set = Delimited None true ∷ Word w_pub ∷ Word w_static ∷ []; nullable = false; never_follow = [] }
 start_of extern_crate = record { first_set = Punctuation pound ∷ Delimited None true ∷ Word w_extern ∷ Word w_pub ∷ []; nullable = false; never_follow = [] }
@@ -405,6 +406,7 @@ closed_of function = true
 closed_of function_rest = true
 closed_of const_item = true
 closed_of const_item_rest = true
+closed_of static_mutability = false
 closed_of static_item = true
 closed_of static_item_rest = true
 closed_of extern_crate = true
@@ -649,6 +651,7 @@ cut_of function = true
 cut_of function_rest = false
 cut_of const_item = true
 cut_of const_item_rest = false
+cut_of static_mutability = true
 cut_of static_item = true
 cut_of static_item_rest = false
 cut_of extern_crate = true
@@ -893,6 +896,7 @@ spaced_of function = false
 spaced_of function_rest = false
 spaced_of const_item = false
 spaced_of const_item_rest = false
+spaced_of static_mutability = true
 spaced_of static_item = false
 spaced_of static_item_rest = false
 spaced_of extern_crate = false
@@ -1137,6 +1141,7 @@ heard_of function = true
 heard_of function_rest = true
 heard_of const_item = true
 heard_of const_item_rest = true
+heard_of static_mutability = false
 heard_of static_item = true
 heard_of static_item_rest = true
 heard_of extern_crate = true
@@ -1381,6 +1386,7 @@ summary_of false function = record { stays = Word w_pub ∷ Word w_const ∷ Wor
 summary_of false function_rest = record { stays = Word w_pub ∷ Word w_const ∷ Word w_async ∷ Word w_unsafe ∷ Word w_extern ∷ Word w_fn ∷ []; moves = move (Delimited None true) (Word w_const) [] ∷ move (Delimited None true) (Word w_async) [] ∷ move (Delimited None true) (Word w_unsafe) [] ∷ move (Delimited None true) (Word w_extern) [] ∷ move (Delimited None true) (Word w_fn) [] ∷ []; nullable = false; gone = []; ends = []; halts = []; shuns = [] }
 summary_of false const_item = record { stays = Word w_pub ∷ Word w_const ∷ []; moves = move (Punctuation pound) (Punctuation pound) [] ∷ move (Delimited None true) (Word w_const) [] ∷ []; nullable = false; gone = []; ends = []; halts = []; shuns = [] }
 summary_of false const_item_rest = record { stays = Word w_pub ∷ Word w_const ∷ []; moves = move (Delimited None true) (Word w_const) [] ∷ []; nullable = false; gone = []; ends = []; halts = []; shuns = [] }
+summary_of false static_mutability = record { stays = []; moves = move (Word w_mut) (Word w_mut) [] ∷ []; nullable = true; gone = []; ends = []; halts = at_word w_mut ∷ []; shuns = [] }
 summary_of false static_item = record { stays = Word w_pub ∷ Word w_static ∷ []; moves = move (Punctuation pound) (Punctuation pound) [] ∷ move (Delimited None true) (Word w_static) [] ∷ []; nullable = false; gone = []; ends = []; halts = []; shuns = [] }
 summary_of false static_item_rest = record { stays = Word w_pub ∷ Word w_static ∷ []; moves = move (Delimited None true) (Word w_static) [] ∷ []; nullable = false; gone = []; ends = []; halts = []; shuns = [] }
 summary_of false extern_crate = record { stays = Word w_pub ∷ Word w_extern ∷ []; moves = move (Punctuation pound) (Punctuation pound) [] ∷ move (Delimited None true) (Word w_extern) [] ∷ []; nullable = false; gone = []; ends = []; halts = []; shuns = [] }
@@ -1622,6 +1628,7 @@ summary_of true function = record { stays = Punctuation pound ∷ Word w_pub ∷
 summary_of true function_rest = record { stays = Word w_pub ∷ Word w_const ∷ Word w_async ∷ Word w_unsafe ∷ Word w_extern ∷ Word w_fn ∷ []; moves = move (Delimited None true) (Word w_const) [] ∷ move (Delimited None true) (Word w_async) [] ∷ move (Delimited None true) (Word w_unsafe) [] ∷ move (Delimited None true) (Word w_extern) [] ∷ move (Delimited None true) (Word w_fn) [] ∷ []; nullable = false; gone = []; ends = []; halts = []; shuns = [] }
 summary_of true const_item = record { stays = Punctuation pound ∷ Word w_pub ∷ Word w_const ∷ []; moves = move (Delimited None true) (Word w_const) [] ∷ []; nullable = false; gone = []; ends = []; halts = []; shuns = [] }
 summary_of true const_item_rest = record { stays = Word w_pub ∷ Word w_const ∷ []; moves = move (Delimited None true) (Word w_const) [] ∷ []; nullable = false; gone = []; ends = []; halts = []; shuns = [] }
+summary_of true static_mutability = record { stays = []; moves = []; nullable = false; gone = []; ends = []; halts = []; shuns = [] }
 summary_of true static_item = record { stays = Punctuation pound ∷ Word w_pub ∷ Word w_static ∷ []; moves = move (Delimited None true) (Word w_static) [] ∷ []; nullable = false; gone = []; ends = []; halts = []; shuns = [] }
 summary_of true static_item_rest = record { stays = Word w_pub ∷ Word w_static ∷ []; moves = move (Delimited None true) (Word w_static) [] ∷ []; nullable = false; gone = []; ends = []; halts = []; shuns = [] }
 summary_of true extern_crate = record { stays = Punctuation pound ∷ Word w_pub ∷ Word w_extern ∷ []; moves = move (Delimited None true) (Word w_extern) [] ∷ []; nullable = false; gone = []; ends = []; halts = []; shuns = [] }
@@ -1866,6 +1873,7 @@ shown_heard_of function = true
 shown_heard_of function_rest = true
 shown_heard_of const_item = true
 shown_heard_of const_item_rest = true
+shown_heard_of static_mutability = false
 shown_heard_of static_item = true
 shown_heard_of static_item_rest = true
 shown_heard_of extern_crate = true
@@ -2110,6 +2118,7 @@ shown_summary_of false function = record { stays = Word w_pub ∷ Word w_const �
 shown_summary_of false function_rest = record { stays = Word w_pub ∷ Word w_const ∷ Word w_async ∷ Word w_unsafe ∷ Word w_extern ∷ Word w_fn ∷ []; moves = move (Delimited None true) (Word w_const) [] ∷ move (Delimited None true) (Word w_async) [] ∷ move (Delimited None true) (Word w_unsafe) [] ∷ move (Delimited None true) (Word w_extern) [] ∷ move (Delimited None true) (Word w_fn) [] ∷ []; nullable = false; gone = []; ends = []; halts = []; shuns = [] }
 shown_summary_of false const_item = record { stays = Word w_pub ∷ Word w_const ∷ []; moves = move (Punctuation pound) (Punctuation pound) [] ∷ move (Delimited None true) (Word w_const) [] ∷ []; nullable = false; gone = []; ends = []; halts = []; shuns = [] }
 shown_summary_of false const_item_rest = record { stays = Word w_pub ∷ Word w_const ∷ []; moves = move (Delimited None true) (Word w_const) [] ∷ []; nullable = false; gone = []; ends = []; halts = []; shuns = [] }
+shown_summary_of false static_mutability = record { stays = []; moves = move (Word w_mut) (Word w_mut) [] ∷ []; nullable = true; gone = []; ends = []; halts = at_word w_mut ∷ []; shuns = [] }
 shown_summary_of false static_item = record { stays = Word w_pub ∷ Word w_static ∷ []; moves = move (Punctuation pound) (Punctuation pound) [] ∷ move (Delimited None true) (Word w_static) [] ∷ []; nullable = false; gone = []; ends = []; halts = []; shuns = [] }
 shown_summary_of false static_item_rest = record { stays = Word w_pub ∷ Word w_static ∷ []; moves = move (Delimited None true) (Word w_static) [] ∷ []; nullable = false; gone = []; ends = []; halts = []; shuns = [] }
 shown_summary_of false extern_crate = record { stays = Word w_pub ∷ Word w_extern ∷ []; moves = move (Punctuation pound) (Punctuation pound) [] ∷ move (Delimited None true) (Word w_extern) [] ∷ []; nullable = false; gone = []; ends = []; halts = []; shuns = [] }
@@ -2351,6 +2360,7 @@ shown_summary_of true function = record { stays = Punctuation pound ∷ Word w_p
 shown_summary_of true function_rest = record { stays = Word w_pub ∷ Word w_const ∷ Word w_async ∷ Word w_unsafe ∷ Word w_extern ∷ Word w_fn ∷ []; moves = move (Delimited None true) (Word w_const) [] ∷ move (Delimited None true) (Word w_async) [] ∷ move (Delimited None true) (Word w_unsafe) [] ∷ move (Delimited None true) (Word w_extern) [] ∷ move (Delimited None true) (Word w_fn) [] ∷ []; nullable = false; gone = []; ends = []; halts = []; shuns = [] }
 shown_summary_of true const_item = record { stays = Punctuation pound ∷ Word w_pub ∷ Word w_const ∷ []; moves = move (Delimited None true) (Word w_const) [] ∷ []; nullable = false; gone = []; ends = []; halts = []; shuns = [] }
 shown_summary_of true const_item_rest = record { stays = Word w_pub ∷ Word w_const ∷ []; moves = move (Delimited None true) (Word w_const) [] ∷ []; nullable = false; gone = []; ends = []; halts = []; shuns = [] }
+shown_summary_of true static_mutability = record { stays = []; moves = []; nullable = false; gone = []; ends = []; halts = []; shuns = [] }
 shown_summary_of true static_item = record { stays = Punctuation pound ∷ Word w_pub ∷ Word w_static ∷ []; moves = move (Delimited None true) (Word w_static) [] ∷ []; nullable = false; gone = []; ends = []; halts = []; shuns = [] }
 shown_summary_of true static_item_rest = record { stays = Word w_pub ∷ Word w_static ∷ []; moves = move (Delimited None true) (Word w_static) [] ∷ []; nullable = false; gone = []; ends = []; halts = []; shuns = [] }
 shown_summary_of true extern_crate = record { stays = Punctuation pound ∷ Word w_pub ∷ Word w_extern ∷ []; moves = move (Delimited None true) (Word w_extern) [] ∷ []; nullable = false; gone = []; ends = []; halts = []; shuns = [] }
@@ -2595,6 +2605,7 @@ starts_hold function = (refl, λ e. e)
 starts_hold function_rest = (refl, λ e. e)
 starts_hold const_item = (refl, λ e. e)
 starts_hold const_item_rest = (refl, λ e. e)
+starts_hold static_mutability = (refl, λ e. refl)
 starts_hold static_item = (refl, λ e. e)
 starts_hold static_item_rest = (refl, λ e. e)
 starts_hold extern_crate = (refl, λ e. e)
@@ -2839,6 +2850,7 @@ never_follow_hold function = refl
 never_follow_hold function_rest = refl
 never_follow_hold const_item = refl
 never_follow_hold const_item_rest = refl
+never_follow_hold static_mutability = refl
 never_follow_hold static_item = refl
 never_follow_hold static_item_rest = refl
 never_follow_hold extern_crate = refl
@@ -3083,6 +3095,7 @@ closed_hold function e = refl
 closed_hold function_rest e = refl
 closed_hold const_item e = refl
 closed_hold const_item_rest e = refl
+closed_hold static_mutability e = absurd (true≢false (sym e))
 closed_hold static_item e = refl
 closed_hold static_item_rest e = refl
 closed_hold extern_crate e = refl
@@ -3327,6 +3340,7 @@ unions_hold function = refl
 unions_hold function_rest = refl
 unions_hold const_item = refl
 unions_hold const_item_rest = refl
+unions_hold static_mutability = refl
 unions_hold static_item = refl
 unions_hold static_item_rest = refl
 unions_hold extern_crate = refl
@@ -3571,6 +3585,7 @@ summaries_hold false function e = (refl, refl)
 summaries_hold false function_rest e = (refl, refl)
 summaries_hold false const_item e = (refl, refl)
 summaries_hold false const_item_rest e = (refl, refl)
+summaries_hold false static_mutability e = (refl, refl)
 summaries_hold false static_item e = (refl, refl)
 summaries_hold false static_item_rest e = (refl, refl)
 summaries_hold false extern_crate e = (refl, refl)
@@ -3812,6 +3827,7 @@ summaries_hold true function e = (refl, refl)
 summaries_hold true function_rest e = (refl, refl)
 summaries_hold true const_item e = (refl, refl)
 summaries_hold true const_item_rest e = (refl, refl)
+summaries_hold true static_mutability e = absurd (true≢false (sym e))
 summaries_hold true static_item e = (refl, refl)
 summaries_hold true static_item_rest e = (refl, refl)
 summaries_hold true extern_crate e = (refl, refl)
@@ -4056,6 +4072,7 @@ ends_hold function = refl
 ends_hold function_rest = refl
 ends_hold const_item = refl
 ends_hold const_item_rest = refl
+ends_hold static_mutability = refl
 ends_hold static_item = refl
 ends_hold static_item_rest = refl
 ends_hold extern_crate = refl

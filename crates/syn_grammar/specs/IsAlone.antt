@@ -2,7 +2,7 @@
 -- The rules whose shown tokens are read again, and where a value that was read before a rest is read at the end; the proofs compute each line again.
 use Rattle.std.specs.Prelude.{Bool, true, false, List, [], ◌∷◌}
 use Rattle.syn_grammar.specs.Words.{Text, comma, semicolon}
-use Rattle.syn_grammar.specs.Rules.{Rule, attributes, inner_attributes, meta, unsafe_path, unsafe_word, meta_value, module_path, module_words, visibility, restriction, type_path, type_words, more_type_words, type_arguments, return_type, generic_arguments, generic_argument, qualified_path, path_as_type, type, types, constant, generics, lifetime_parameter, lifetimes, parameter_bounds, bound, trait_bound, bound_lifetimes, lifetime_parameters, where_clause, predicates, predicate, predicate_bounds, fields_named, named_fields, named_field, nameless_fields, unnamed_field, unnamed_fields, fields_unnamed, variant, variants, structure, structure_rest, structure_body, enumeration, enumeration_rest, union_item, union_item_rest, derive_input, expression_path, expression_words, qualified_expression_path, path_as_expression, macro_invocation, pattern, patterns, expressions, array_content, block, body, plain_body, no_inner_attributes, primary, literal_fields, literal_field, block_like, if_expression, loop_expression, postfixes, member, unary, casts, cast, products, product, sums, sum, shifts, shift, bit_ands, bit_and, bit_xors, bit_xor, bit_ors, bit_or, compared, comparison, conjunctions, conjunction, disjunctions, disjunction, assigned, whole_expression, primary_head, unary_head, cast_head, products_head, product_head, sums_head, sum_head, shifts_head, shift_head, bit_ands_head, bit_and_head, bit_xors_head, bit_xor_head, bit_ors_head, bit_or_head, compared_head, comparison_head, conjunctions_head, conjunction_head, disjunctions_head, disjunction_head, assigned_head, whole_expression_head, operand_rest, statements, statement_rest, after_block, after_expression, statement, crate_macro, brace_macro, crate_macro_item, statement_end, local, no_attributes, receiver, receiver_rest, argument, inputs, later_inputs, input_rest, variadic, abi, unsafe_only, safe_or_unsafe, signature, signature_rest, function, function_rest, const_item, const_item_rest, static_item, static_item_rest, extern_crate, extern_crate_rest, use_tree, use_trees, root_mark, rooted_tree, rooted_trees, use_item, use_item_rest, rooted_use, module_item, module_item_rest, alias_bounds, type_bounds, alias, trait_alias, trait_alias_rest, type_item, type_item_rest, macro_end, macro_item, macro_item_rest, macro_as_item, macro_as_item_rest, bodiless_function, untyped_static, valueless_static, odd_const, macro_definition, odd_type, supertraits, bare_trait, trait_definition, trait_definition_rest, const_alias, restricted_trait, self_type, for_self_type, impl_body, impl_definition, impl_definition_rest, odd_impl, visible_const_impl, const_trait, const_impl, odd_const_impl, foreign_module, foreign_module_rest, member_macro, bare_trait_function, bare_trait_type, trait_const, trait_function, trait_type, trait_macro, trait_macro_as_item, any_const, marked_member, odd_trait_const, kept_trait_item, trait_item, trait_items, impl_const, impl_function, impl_type, impl_macro, impl_macro_as_item, bodiless_impl_function, odd_impl_const, odd_impl_type, kept_impl_item, impl_item, impl_items, foreign_signature, bare_foreign_static, foreign_function, foreign_static, foreign_type, foreign_macro, foreign_macro_as_item, foreign_body, foreign_value, odd_foreign_type, kept_foreign_item, foreign_item, foreign_items, kept_item_rest, kept_item, kept_in_block, item_rest, item, items, file}
+use Rattle.syn_grammar.specs.Rules.{Rule, attributes, inner_attributes, meta, unsafe_path, unsafe_word, meta_value, module_path, module_words, visibility, restriction, type_path, type_words, more_type_words, type_arguments, return_type, generic_arguments, generic_argument, qualified_path, path_as_type, type, types, constant, generics, lifetime_parameter, lifetimes, parameter_bounds, bound, trait_bound, bound_lifetimes, lifetime_parameters, where_clause, predicates, predicate, predicate_bounds, fields_named, named_fields, named_field, nameless_fields, unnamed_field, unnamed_fields, fields_unnamed, variant, variants, structure, structure_rest, structure_body, enumeration, enumeration_rest, union_item, union_item_rest, derive_input, expression_path, expression_words, qualified_expression_path, path_as_expression, macro_invocation, pattern, patterns, expressions, array_content, block, body, plain_body, no_inner_attributes, primary, literal_fields, literal_field, block_like, if_expression, loop_expression, postfixes, member, unary, casts, cast, products, product, sums, sum, shifts, shift, bit_ands, bit_and, bit_xors, bit_xor, bit_ors, bit_or, compared, comparison, conjunctions, conjunction, disjunctions, disjunction, assigned, whole_expression, primary_head, unary_head, cast_head, products_head, product_head, sums_head, sum_head, shifts_head, shift_head, bit_ands_head, bit_and_head, bit_xors_head, bit_xor_head, bit_ors_head, bit_or_head, compared_head, comparison_head, conjunctions_head, conjunction_head, disjunctions_head, disjunction_head, assigned_head, whole_expression_head, operand_rest, statements, statement_rest, after_block, after_expression, statement, crate_macro, brace_macro, crate_macro_item, statement_end, local, no_attributes, receiver, receiver_rest, argument, inputs, later_inputs, input_rest, variadic, abi, unsafe_only, safe_or_unsafe, signature, signature_rest, function, function_rest, const_item, const_item_rest, static_mutability, static_item, static_item_rest, extern_crate, extern_crate_rest, use_tree, use_trees, root_mark, rooted_tree, rooted_trees, use_item, use_item_rest, rooted_use, module_item, module_item_rest, alias_bounds, type_bounds, alias, trait_alias, trait_alias_rest, type_item, type_item_rest, macro_end, macro_item, macro_item_rest, macro_as_item, macro_as_item_rest, bodiless_function, untyped_static, valueless_static, odd_const, macro_definition, odd_type, supertraits, bare_trait, trait_definition, trait_definition_rest, const_alias, restricted_trait, self_type, for_self_type, impl_body, impl_definition, impl_definition_rest, odd_impl, visible_const_impl, const_trait, const_impl, odd_const_impl, foreign_module, foreign_module_rest, member_macro, bare_trait_function, bare_trait_type, trait_const, trait_function, trait_type, trait_macro, trait_macro_as_item, any_const, marked_member, odd_trait_const, kept_trait_item, trait_item, trait_items, impl_const, impl_function, impl_type, impl_macro, impl_macro_as_item, bodiless_impl_function, odd_impl_const, odd_impl_type, kept_impl_item, impl_item, impl_items, foreign_signature, bare_foreign_static, foreign_function, foreign_static, foreign_type, foreign_macro, foreign_macro_as_item, foreign_body, foreign_value, odd_foreign_type, kept_foreign_item, foreign_item, foreign_items, kept_item_rest, kept_item, kept_in_block, item_rest, item, items, file}
 
 -- what is shown of its value (all its tokens, in their order) is read as the same value
 abbrev pub reads_shown : Rule → Bool
@@ -152,6 +152,7 @@ reads_shown function = true
 reads_shown function_rest = true
 reads_shown const_item = true
 reads_shown const_item_rest = true
+reads_shown static_mutability = true
 reads_shown static_item = true
 reads_shown static_item_rest = true
 reads_shown extern_crate = true
@@ -396,6 +397,7 @@ is_alone function = true
 is_alone function_rest = true
 is_alone const_item = true
 is_alone const_item_rest = true
+is_alone static_mutability = true
 is_alone static_item = true
 is_alone static_item_rest = true
 is_alone extern_crate = true
@@ -640,6 +642,7 @@ is_before function = comma ∷ semicolon ∷ []
 is_before function_rest = comma ∷ semicolon ∷ []
 is_before const_item = comma ∷ semicolon ∷ []
 is_before const_item_rest = comma ∷ semicolon ∷ []
+is_before static_mutability = comma ∷ semicolon ∷ []
 is_before static_item = comma ∷ semicolon ∷ []
 is_before static_item_rest = comma ∷ semicolon ∷ []
 is_before extern_crate = comma ∷ semicolon ∷ []

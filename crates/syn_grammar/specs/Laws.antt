@@ -4,6 +4,7 @@ use Rattle.syn_grammar.specs.Tokens.{Stream, end, ◌⧺◌, plain, visible}
 use Rattle.syn_grammar.specs.Rules.{Rule}
 use Rattle.syn_grammar.specs.Grammar.{Syntax, DerivesPrefix, rule, print, normal, plain_syntax}
 use Rattle.syn_grammar.specs.Table.{table}
+use Rattle.syn_grammar.specs.Run.{value_of}
 
 -- A derivation: the rule reads the whole token stream as this syntax tree.
 abbrev pub Derives : Rule → Stream → Syntax → Type 0
@@ -41,6 +42,11 @@ NormalForgetsSpans = (s : Syntax) → normal s ≡ normal (plain_syntax s)
 -- Of two trees that one rule derives, the normal forms are equal if and only if the prints are equal up to spans.
 abbrev pub SameForm : Type 0
 SameForm = (k : Rule) (a b : Stream) (s t : Syntax) → Derives k a s → Derives k b t → (normal s ≡ normal t) ↔ (plain (print s) ≡ plain (print t))
+
+-- Of two trees that one rule derives, the normal forms are equal if and only if those of their values are: `value_of t` is the part of a
+-- derivation tree t that a parser returns. So the laws of derivation trees hold of returned values too.
+abbrev pub SameValueForm : Type 0
+SameValueForm = (k : Rule) (a b : Stream) (s t : Syntax) → Derives k a s → Derives k b t → (normal s ≡ normal t) ↔ (normal (value_of s) ≡ normal (value_of t))
 
 -- This rule ends by itself, without a test of the tokens after it: what it derives of a token stream, it also reads from that stream before any rest.
 abbrev pub EndsByItself : Rule → Type 0

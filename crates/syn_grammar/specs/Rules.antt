@@ -147,6 +147,7 @@ pub data Rule : Type 0 where
   function_rest : Rule
   const_item : Rule
   const_item_rest : Rule
+  static_mutability : Rule
   static_item : Rule
   static_item_rest : Rule
   extern_crate : Rule

@@ -6,7 +6,7 @@
 use Rattle.std.specs.Prelude.{true, false, List, [], ◌∷◌}
 use Rattle.syn_grammar.specs.Words.{Text, w_underscore, w_as, w_async, w_break, w_const, w_continue, w_crate, w_else, w_enum, w_extern, w_false, w_fn, w_for, w_if, w_impl, w_in, w_let, w_loop, w_macro, w_mod, w_mut, w_pub, w_ref, w_return, w_Self_type, w_self, w_static, w_struct, w_super, w_trait, w_true, w_try, w_type, w_unsafe, w_use, w_where, w_while, w_union, w_auto, w_default, w_safe, comma, semicolon, colon, equals, plus, star, less, greater, pound, ampersand, question, exclamation, minus, dot, colons, arrow, equal_equal, not_equals, less_less, less_equals, bar, slash, percent, and_and, or_or, greater_greater, greater_equals, plus_equals, minus_equals, star_equals, slash_equals, percent_equals, caret_equals, ampersand_equals, bar_equals, less_less_equals, greater_greater_equals, dots, ellipsis, caret}
 use Rattle.syn_grammar.specs.Tokens.{Paren, Brace, Bracket, None, Str, ByteStr, CStr, Byte, Char, Int, Float, Fact, Before_equals, Before_end, Before_colons, Before_paren, Before_less, Before_bang, Before_type_rest, Before_own_self, Begins_item, Not_item, Bang_brace, Bang_name, Before_macro, Lone_word, Begins_in, Before_brace, Look, ended, at_name, at_word, at_mark, at_literal, at_group, at_empty_group, ahead, ◌or_else◌, ◌and_also◌, ◌but_not◌, at_lifetime, at_generics, at_path_word}
-use Rattle.syn_grammar.specs.Rules.{Rule, attributes, inner_attributes, meta, unsafe_path, unsafe_word, meta_value, module_path, module_words, visibility, restriction, type_path, type_words, more_type_words, type_arguments, return_type, generic_arguments, generic_argument, qualified_path, path_as_type, type, types, constant, generics, lifetime_parameter, lifetimes, parameter_bounds, bound, trait_bound, bound_lifetimes, lifetime_parameters, where_clause, predicates, predicate, predicate_bounds, fields_named, named_fields, named_field, nameless_fields, unnamed_field, unnamed_fields, fields_unnamed, variant, variants, structure, structure_rest, structure_body, enumeration, enumeration_rest, union_item, union_item_rest, derive_input, expression_path, expression_words, qualified_expression_path, path_as_expression, macro_invocation, pattern, patterns, expressions, array_content, block, body, plain_body, no_inner_attributes, primary, literal_fields, literal_field, block_like, if_expression, loop_expression, postfixes, member, unary, casts, cast, products, product, sums, sum, shifts, shift, bit_ands, bit_and, bit_xors, bit_xor, bit_ors, bit_or, compared, comparison, conjunctions, conjunction, disjunctions, disjunction, assigned, whole_expression, primary_head, unary_head, cast_head, products_head, product_head, sums_head, sum_head, shifts_head, shift_head, bit_ands_head, bit_and_head, bit_xors_head, bit_xor_head, bit_ors_head, bit_or_head, compared_head, comparison_head, conjunctions_head, conjunction_head, disjunctions_head, disjunction_head, assigned_head, whole_expression_head, operand_rest, statements, statement_rest, after_block, after_expression, statement, crate_macro, brace_macro, crate_macro_item, statement_end, local, no_attributes, receiver, receiver_rest, argument, inputs, later_inputs, input_rest, variadic, abi, unsafe_only, safe_or_unsafe, signature, signature_rest, function, function_rest, const_item, const_item_rest, static_item, static_item_rest, extern_crate, extern_crate_rest, use_tree, use_trees, root_mark, rooted_tree, rooted_trees, use_item, use_item_rest, rooted_use, module_item, module_item_rest, alias_bounds, type_bounds, alias, trait_alias, trait_alias_rest, type_item, type_item_rest, macro_end, macro_item, macro_item_rest, macro_as_item, macro_as_item_rest, bodiless_function, untyped_static, valueless_static, odd_const, macro_definition, odd_type, supertraits, bare_trait, trait_definition, trait_definition_rest, const_alias, restricted_trait, self_type, for_self_type, impl_body, impl_definition, impl_definition_rest, odd_impl, visible_const_impl, const_trait, const_impl, odd_const_impl, foreign_module, foreign_module_rest, member_macro, bare_trait_function, bare_trait_type, trait_const, trait_function, trait_type, trait_macro, trait_macro_as_item, any_const, marked_member, odd_trait_const, kept_trait_item, trait_item, trait_items, impl_const, impl_function, impl_type, impl_macro, impl_macro_as_item, bodiless_impl_function, odd_impl_const, odd_impl_type, kept_impl_item, impl_item, impl_items, foreign_signature, bare_foreign_static, foreign_function, foreign_static, foreign_type, foreign_macro, foreign_macro_as_item, foreign_body, foreign_value, odd_foreign_type, kept_foreign_item, foreign_item, foreign_items, kept_item_rest, kept_item, kept_in_block, item_rest, item, items, file}
+use Rattle.syn_grammar.specs.Rules.{Rule, attributes, inner_attributes, meta, unsafe_path, unsafe_word, meta_value, module_path, module_words, visibility, restriction, type_path, type_words, more_type_words, type_arguments, return_type, generic_arguments, generic_argument, qualified_path, path_as_type, type, types, constant, generics, lifetime_parameter, lifetimes, parameter_bounds, bound, trait_bound, bound_lifetimes, lifetime_parameters, where_clause, predicates, predicate, predicate_bounds, fields_named, named_fields, named_field, nameless_fields, unnamed_field, unnamed_fields, fields_unnamed, variant, variants, structure, structure_rest, structure_body, enumeration, enumeration_rest, union_item, union_item_rest, derive_input, expression_path, expression_words, qualified_expression_path, path_as_expression, macro_invocation, pattern, patterns, expressions, array_content, block, body, plain_body, no_inner_attributes, primary, literal_fields, literal_field, block_like, if_expression, loop_expression, postfixes, member, unary, casts, cast, products, product, sums, sum, shifts, shift, bit_ands, bit_and, bit_xors, bit_xor, bit_ors, bit_or, compared, comparison, conjunctions, conjunction, disjunctions, disjunction, assigned, whole_expression, primary_head, unary_head, cast_head, products_head, product_head, sums_head, sum_head, shifts_head, shift_head, bit_ands_head, bit_and_head, bit_xors_head, bit_xor_head, bit_ors_head, bit_or_head, compared_head, comparison_head, conjunctions_head, conjunction_head, disjunctions_head, disjunction_head, assigned_head, whole_expression_head, operand_rest, statements, statement_rest, after_block, after_expression, statement, crate_macro, brace_macro, crate_macro_item, statement_end, local, no_attributes, receiver, receiver_rest, argument, inputs, later_inputs, input_rest, variadic, abi, unsafe_only, safe_or_unsafe, signature, signature_rest, function, function_rest, const_item, const_item_rest, static_mutability, static_item, static_item_rest, extern_crate, extern_crate_rest, use_tree, use_trees, root_mark, rooted_tree, rooted_trees, use_item, use_item_rest, rooted_use, module_item, module_item_rest, alias_bounds, type_bounds, alias, trait_alias, trait_alias_rest, type_item, type_item_rest, macro_end, macro_item, macro_item_rest, macro_as_item, macro_as_item_rest, bodiless_function, untyped_static, valueless_static, odd_const, macro_definition, odd_type, supertraits, bare_trait, trait_definition, trait_definition_rest, const_alias, restricted_trait, self_type, for_self_type, impl_body, impl_definition, impl_definition_rest, odd_impl, visible_const_impl, const_trait, const_impl, odd_const_impl, foreign_module, foreign_module_rest, member_macro, bare_trait_function, bare_trait_type, trait_const, trait_function, trait_type, trait_macro, trait_macro_as_item, any_const, marked_member, odd_trait_const, kept_trait_item, trait_item, trait_items, impl_const, impl_function, impl_type, impl_macro, impl_macro_as_item, bodiless_impl_function, odd_impl_const, odd_impl_type, kept_impl_item, impl_item, impl_items, foreign_signature, bare_foreign_static, foreign_function, foreign_static, foreign_type, foreign_macro, foreign_macro_as_item, foreign_body, foreign_value, odd_foreign_type, kept_foreign_item, foreign_item, foreign_items, kept_item_rest, kept_item, kept_in_block, item_rest, item, items, file}
 use Rattle.syn_grammar.specs.Shape.{Assign, Binary, Block, Break, Call, Cast, Continue, ForLoop, Grouped, If, Index, Lit, Loop, Macro, Path, Reference, Return, Try, Unary, Unsafe, While, operand, bracketed, after_it, operator, dotted, fields, choice, chain, leading, labelled, attributed, listed, lone, said, said_macro, a_local, an_item, single, untagged, parameters, based}
 use Rattle.syn_grammar.specs.Grammar.{name, word, name_or, literal_of, index, any_literal, trailing_brace, no_trailing_brace, has, has_no, one_where, Grammar, empty, token, lifetime, ◌&◌, when◌then◌else◌, vanishing, inside, raw, rest_after, either, one_of, rule, such, shaped, captured, unshown, supplied, generics_before, ordered}
 use Rattle.syn_grammar.specs.Forms.{plainly, telling, asking, punctuation, asking_punctuation, never, optional}
@@ -1318,6 +1318,10 @@ table const_item_rest =
     & punctuation equals
     & rule whole_expression
     & punctuation semicolon
+--
+-- `mut` if it is next, or nothing: the mutability of a static, by itself. (Statics read it as a part of their own rules.)
+table static_mutability =
+    optional w_mut
 --
 -- A static with its attributes.
 table static_item =

@@ -1,7 +1,7 @@
 //! The laws of the computed reading, each the contract of an empty function without parameters.
 //! Their statements are in specs/Computed.antt.
 
-ghost use Rattle.syn_grammar.specs.Computed.{ParseMeans, ParseForms, ParseRows, ParseOnward, ValuePrints, OneValue, CapturedIsSome};
+ghost use Rattle.syn_grammar.specs.Computed.{ParseMeans, ParseForms, ParseRows, ParseOnward, ValuePrints, ValuePrintIsRead, ValuesSameForm, OneValue, CapturedIsSome};
 ghost use Rattle.syn_grammar.specs.ItemStatements.{ItemStatements};
 ghost use Rattle.syn_grammar.specs.UseGroups.{UseGroups};
 ghost use Rattle.syn_grammar.specs.ItemPlan.{ItemPlan};
@@ -39,6 +39,18 @@ pub fn parse_onward()
 /// What a value holds of a syntax tree prints as the tree does. Holds of every tree.
 pub fn value_prints()
     ensures same_print { ValuePrints }
+{}
+
+/// The same rule derives the print of a derived value again, as a value with the same normal form. Holds of
+/// every token stream.
+pub fn value_print_is_read()
+    ensures derived_again { ValuePrintIsRead }
+{}
+
+/// Of two values that one rule derives, the normal forms are equal exactly where the prints are equal, spans
+/// aside. Holds of every pair of token streams.
+pub fn values_same_form()
+    ensures by_print { ValuesSameForm }
 {}
 
 /// From one token stream each rule reads trees of at most one value, and leaves one rest. Holds of

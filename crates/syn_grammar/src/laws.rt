@@ -2,7 +2,7 @@
 //! specs/Laws.antt and specs/Grows.antt. They hold of every token stream, unless they require a visible one.
 
 ghost use Rattle.syn_grammar.specs.Grows.{LiftKeeps, StillDerives};
-ghost use Rattle.syn_grammar.specs.Laws.{OneTree, SpansDecideNothing, PrintIsRead, PrintIsVisible, NormalPrints, NormalIsIdempotent, NormalForgetsSpans, SameForm, EndsByItself};
+ghost use Rattle.syn_grammar.specs.Laws.{OneTree, SpansDecideNothing, PrintIsRead, PrintIsVisible, NormalPrints, NormalIsIdempotent, NormalForgetsSpans, SameForm, SameValueForm, EndsByItself};
 ghost use Rattle.syn_grammar.specs.Rules.{derive_input, item, trait_item, impl_item, foreign_item};
 
 /// The grammar is unambiguous: from one token stream each rule reads at most one syntax tree, and
@@ -49,6 +49,13 @@ pub fn normal_forgets_spans()
 /// spans aside. Holds of every pair of token streams.
 pub fn same_form()
     ensures by_print { SameForm }
+{}
+
+/// Of two trees that one rule derives, the normal forms are equal exactly where those of their values are. A
+/// parser returns the value of a derivation tree, so what the laws say of normal forms holds of returned
+/// trees. Holds of every pair of token streams.
+pub fn same_value_form()
+    ensures by_value { SameValueForm }
 {}
 
 /// The input of a derive ends by itself: what is derived of a token stream is read, as the same tree,

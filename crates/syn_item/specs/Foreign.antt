@@ -14,7 +14,7 @@ use Rattle.syn_tree.specs.Restriction.{syntax_of_Visibility}
 use Rattle.syn_item.specs.Macros.{among_members}
 use Rattle.syn_item.specs.Parts.{aside, members_of}
 use Rattle.syn_item.specs.Signatures.{syntax_of_Safety}
-use Rattle.syn_item.specs.Simple.{syntax_of_StaticMutability}
+use Rattle.syn_item.specs.Simple.{mutability_syntax}
 use Rattle.syn_item.specs.declared.foreign.ForeignItem.TheVariants as ForeignItem-m
 use Rattle.syn_item.specs.declared.foreign.ForeignItemFn.TheInside as ForeignItemFn-in
 use Rattle.syn_item.specs.declared.foreign.ForeignItemStatic.TheInside as ForeignItemStatic-in
@@ -39,7 +39,7 @@ syntax_of_ForeignItemFn = Node
 abbrev pub view_ForeignItemStatic : ForeignItemStatic-in.Inside → Syntax
 view_ForeignItemStatic a =
     Both (attributes_syntax a.attrs.items) (Both (syntax_of_Visibility a.vis)
-    (Both (Node (Both (syntax_of_Safety a.safety) (Both (static_syntax a.static_token) (Both (syntax_of_StaticMutability a.mutability) (Both (syntax_of_ident a.ident)
+    (Both (Node (Both (syntax_of_Safety a.safety) (Both (static_syntax a.static_token) (Both (mutability_syntax a.mutability) (Both (syntax_of_ident a.ident)
     (Both (colon_syntax a.colon_token) (syntax_of_Type a.ty.value))))))) (semi_syntax a.semi_token)))
 
 abbrev pub syntax_of_ForeignItemStatic : Syntax → Syntax

@@ -4,13 +4,13 @@ use Rattle.syn_tokens.specs.Kinds.{colon_syntax, static_syntax}
 use Rattle.syn_tokens.specs.Leaves.{syntax_of_ident}
 use Rattle.syn_lower.specs.Types.{syntax_of_Type}
 use Rattle.syn_item.specs.Signatures.{syntax_of_Safety}
-use Rattle.syn_item.specs.Simple.{syntax_of_StaticMutability}
+use Rattle.syn_item.specs.Simple.{mutability_syntax}
 use Rattle.syn_item.specs.declared.foreign.members.BareStatic.{BareStatic}
 
 -- a foreign static without its `;`
 abbrev pub bare_static_syntax : BareStatic → Syntax
 bare_static_syntax s =
-    Node (Both (syntax_of_Safety s.safety) (Both (static_syntax s.static_token) (Both (syntax_of_StaticMutability s.mutability) (Both (syntax_of_ident s.ident) (Both (colon_syntax s.colon_token) (syntax_of_Type s.ty.value))))))
+    Node (Both (syntax_of_Safety s.safety) (Both (static_syntax s.static_token) (Both (mutability_syntax s.mutability) (Both (syntax_of_ident s.ident) (Both (colon_syntax s.colon_token) (syntax_of_Type s.ty.value))))))
 
 -- a foreign function of its attributes, its visibility, its signature and its `;`
 abbrev pub foreign_function_of : Syntax → Syntax → Syntax → Syntax → Syntax

@@ -40,14 +40,19 @@ view_ItemConst a =
 abbrev pub syntax_of_ItemConst : Syntax → Syntax
 syntax_of_ItemConst = Node
 
+-- the mutability of a static, as a part of its rule
+abbrev pub mutability_syntax : StaticMutability-m.the_data → Syntax
+mutability_syntax (StaticMutability-m.Mut w) = Left (mut_syntax w)
+mutability_syntax StaticMutability-m.None = Right Nothing
+
+-- and by itself, as its own rule
 abbrev pub syntax_of_StaticMutability : StaticMutability-m.the_data → Syntax
-syntax_of_StaticMutability (StaticMutability-m.Mut w) = Left (mut_syntax w)
-syntax_of_StaticMutability StaticMutability-m.None = Right Nothing
+syntax_of_StaticMutability m = Node (mutability_syntax m)
 
 abbrev pub view_ItemStatic : ItemStatic-in.Inside → Syntax
 view_ItemStatic a =
     item_of (attributes_syntax a.attrs.items) (syntax_of_Visibility a.vis)
-    (Both (static_syntax a.static_token) (Both (syntax_of_StaticMutability a.mutability) (Both (syntax_of_ident a.ident)
+    (Both (static_syntax a.static_token) (Both (mutability_syntax a.mutability) (Both (syntax_of_ident a.ident)
     (Both (colon_syntax a.colon_token) (Both (syntax_of_Type a.ty.value) (Both (eq_syntax a.eq_token) (Both a.expr (semi_syntax a.semi_token))))))))
 
 abbrev pub syntax_of_ItemStatic : Syntax → Syntax

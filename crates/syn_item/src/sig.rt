@@ -10,6 +10,7 @@ ghost use Rattle.syn_tokens.specs.Listing.{list_of};
 ghost use Rattle.syn_lower.specs.Generics.{clause_of};
 ghost use Rattle.syn_lower.specs.Parts.{group_syntax};
 ghost use Rattle.syn_lower.specs.Paths.{syntax_of_ReturnType};
+ghost use Rattle.syn_item.specs.declared.sig.Safety.TheVariants as variants;
 ghost use Rattle.syn_item.specs.Signatures.{comma_after, last_comma, parameters_of, received, receiver_as, receiver_in, syntax_of_FnArg, syntax_of_ReceiverKind};
 
 mod parameters;
@@ -17,7 +18,7 @@ mod parsing;
 mod wrappers;
 
 pub use parsing::foreign_signature;
-pub(crate) use parsing::{Qualifiers, safe_or_unsafe, signature_rest, unsafe_only};
+pub(crate) use parsing::{Qualifiers, safe_or_unsafe, signature_rest, standing, unsafe_only};
 use std::alloc::{AllocError, Global};
 use syn_lower::attr::print_outer;
 use syn_lower::{Attribute, Generics, ReturnType, Type};
@@ -62,6 +63,15 @@ pub enum Safety {
     Unsafe(Unsafe),
     /// Neither.
     Default,
+}
+
+/// Neither `safe` nor `unsafe`.
+impl Default for Safety {
+    ghost is_default = { λ safety. safety ≡ variants.Default };
+
+    fn default() -> Safety {
+        Safety::Default
+    }
 }
 
 /// An ABI, such as `extern "C"` or `extern` alone.

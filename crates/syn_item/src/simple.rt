@@ -43,7 +43,7 @@ use syn_tokens::token::{
 use syn_tokens::{error, token};
 use syn_tree::item::{ConstModifiers, TypeModifiers};
 use syn_tree::restriction::Visibility;
-pub(crate) use values::{const_rest, constant, static_item, static_rest};
+pub(crate) use values::{const_rest, constant, static_item, static_mutability, static_rest};
 
 /// A constant, such as `const A: u8 = 1;`.
 #[derive(Drop)]

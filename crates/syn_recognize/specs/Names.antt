@@ -238,10 +238,10 @@ abbrev pub signatures_rule : ℕ → Rule
 signatures_rule n = get_or (rules.no_attributes ∷ rules.receiver ∷ rules.receiver_rest ∷ rules.argument ∷ rules.inputs ∷ rules.later_inputs ∷ rules.input_rest ∷ rules.variadic ∷ rules.abi ∷ rules.unsafe_only ∷ rules.safe_or_unsafe ∷ rules.signature ∷ []) n rules.signature_rest
 
 abbrev pub items_1_rule : ℕ → Rule
-items_1_rule n = get_or (rules.function ∷ rules.function_rest ∷ rules.const_item ∷ rules.const_item_rest ∷ rules.static_item ∷ rules.static_item_rest ∷ rules.extern_crate ∷ rules.extern_crate_rest ∷ rules.use_tree ∷ rules.use_trees ∷ rules.root_mark ∷ rules.rooted_tree ∷ rules.rooted_trees ∷ rules.use_item ∷ []) n rules.use_item_rest
+items_1_rule n = get_or (rules.function ∷ rules.function_rest ∷ rules.const_item ∷ rules.const_item_rest ∷ rules.static_mutability ∷ rules.static_item ∷ rules.static_item_rest ∷ rules.extern_crate ∷ rules.extern_crate_rest ∷ rules.use_tree ∷ rules.use_trees ∷ rules.root_mark ∷ rules.rooted_tree ∷ rules.rooted_trees ∷ []) n rules.use_item
 
 abbrev pub items_2_rule : ℕ → Rule
-items_2_rule n = get_or (rules.module_item ∷ rules.module_item_rest ∷ rules.alias_bounds ∷ rules.type_bounds ∷ rules.alias ∷ rules.trait_alias ∷ rules.trait_alias_rest ∷ rules.type_item ∷ rules.type_item_rest ∷ rules.macro_end ∷ rules.macro_item ∷ rules.macro_item_rest ∷ rules.macro_as_item ∷ []) n rules.macro_as_item_rest
+items_2_rule n = get_or (rules.use_item_rest ∷ rules.module_item ∷ rules.module_item_rest ∷ rules.alias_bounds ∷ rules.type_bounds ∷ rules.alias ∷ rules.trait_alias ∷ rules.trait_alias_rest ∷ rules.type_item ∷ rules.type_item_rest ∷ rules.macro_end ∷ rules.macro_item ∷ rules.macro_item_rest ∷ rules.macro_as_item ∷ []) n rules.macro_as_item_rest
 
 abbrev pub kept_items_rule : ℕ → Rule
 kept_items_rule n = get_or (rules.bodiless_function ∷ rules.untyped_static ∷ rules.valueless_static ∷ rules.odd_const ∷ rules.macro_definition ∷ []) n rules.odd_type

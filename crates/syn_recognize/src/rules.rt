@@ -796,129 +796,134 @@ impl Rule {
         place: 3,
     };
 
-    pub const STATIC_ITEM: Rule = Rule {
+    pub const STATIC_MUTABILITY: Rule = Rule {
         topic: Topic::Items1,
         place: 4,
+    };
+
+    pub const STATIC_ITEM: Rule = Rule {
+        topic: Topic::Items1,
+        place: 5,
     };
 
     pub const STATIC_ITEM_REST: Rule = Rule {
         topic: Topic::Items1,
-        place: 5,
+        place: 6,
     };
 
     pub const EXTERN_CRATE: Rule = Rule {
         topic: Topic::Items1,
-        place: 6,
+        place: 7,
     };
 
     pub const EXTERN_CRATE_REST: Rule = Rule {
         topic: Topic::Items1,
-        place: 7,
+        place: 8,
     };
 
     pub const USE_TREE: Rule = Rule {
         topic: Topic::Items1,
-        place: 8,
+        place: 9,
     };
 
     pub const USE_TREES: Rule = Rule {
         topic: Topic::Items1,
-        place: 9,
+        place: 10,
     };
 
     pub const ROOT_MARK: Rule = Rule {
         topic: Topic::Items1,
-        place: 10,
+        place: 11,
     };
 
     pub const ROOTED_TREE: Rule = Rule {
         topic: Topic::Items1,
-        place: 11,
+        place: 12,
     };
 
     pub const ROOTED_TREES: Rule = Rule {
         topic: Topic::Items1,
-        place: 12,
+        place: 13,
     };
 
     pub const USE_ITEM: Rule = Rule {
         topic: Topic::Items1,
-        place: 13,
-    };
-
-    pub const USE_ITEM_REST: Rule = Rule {
-        topic: Topic::Items1,
         place: 14,
     };
 
-    pub const MODULE_ITEM: Rule = Rule {
+    pub const USE_ITEM_REST: Rule = Rule {
         topic: Topic::Items2,
         place: 0,
     };
 
-    pub const MODULE_ITEM_REST: Rule = Rule {
+    pub const MODULE_ITEM: Rule = Rule {
         topic: Topic::Items2,
         place: 1,
     };
 
-    pub const ALIAS_BOUNDS: Rule = Rule {
+    pub const MODULE_ITEM_REST: Rule = Rule {
         topic: Topic::Items2,
         place: 2,
     };
 
-    pub const TYPE_BOUNDS: Rule = Rule {
+    pub const ALIAS_BOUNDS: Rule = Rule {
         topic: Topic::Items2,
         place: 3,
     };
 
-    pub const ALIAS: Rule = Rule {
+    pub const TYPE_BOUNDS: Rule = Rule {
         topic: Topic::Items2,
         place: 4,
     };
 
-    pub const TRAIT_ALIAS: Rule = Rule {
+    pub const ALIAS: Rule = Rule {
         topic: Topic::Items2,
         place: 5,
     };
 
-    pub const TRAIT_ALIAS_REST: Rule = Rule {
+    pub const TRAIT_ALIAS: Rule = Rule {
         topic: Topic::Items2,
         place: 6,
     };
 
-    pub const TYPE_ITEM: Rule = Rule {
+    pub const TRAIT_ALIAS_REST: Rule = Rule {
         topic: Topic::Items2,
         place: 7,
     };
 
-    pub const TYPE_ITEM_REST: Rule = Rule {
+    pub const TYPE_ITEM: Rule = Rule {
         topic: Topic::Items2,
         place: 8,
     };
 
-    pub const MACRO_END: Rule = Rule {
+    pub const TYPE_ITEM_REST: Rule = Rule {
         topic: Topic::Items2,
         place: 9,
     };
 
-    pub const MACRO_ITEM: Rule = Rule {
+    pub const MACRO_END: Rule = Rule {
         topic: Topic::Items2,
         place: 10,
     };
 
-    pub const MACRO_ITEM_REST: Rule = Rule {
+    pub const MACRO_ITEM: Rule = Rule {
         topic: Topic::Items2,
         place: 11,
     };
 
-    pub const MACRO_AS_ITEM: Rule = Rule {
+    pub const MACRO_ITEM_REST: Rule = Rule {
         topic: Topic::Items2,
         place: 12,
     };
 
-    pub const MACRO_AS_ITEM_REST: Rule = Rule {
+    pub const MACRO_AS_ITEM: Rule = Rule {
         topic: Topic::Items2,
         place: 13,
+    };
+
+    pub const MACRO_AS_ITEM_REST: Rule = Rule {
+        topic: Topic::Items2,
+        place: 14,
     };
 
     pub const BODILESS_FUNCTION: Rule = Rule {

@@ -25,8 +25,8 @@ impl CopyNested<Expr> for Local {
     fn copy_nested<N: CopyOf<Expr>>(&self, nested: &N, alloc: Global) -> Result<Local, AllocError> {
         Ok(Local {
             attrs: copied(&self.attrs, alloc)?,
-            modifiers: self.modifiers,
             let_token: self.let_token,
+            modifiers: self.modifiers,
             pat: copied(&self.pat, alloc)?,
             init: self.init.copy_nested(nested, alloc)?,
             semi_token: self.semi_token,

@@ -25,7 +25,7 @@ ghost use Rattle.syn_item.specs.Stages.{foreign_function_or_kept, foreign_item_p
 use super::{ForeignItem, ForeignItemFn, ForeignItemMacro, ForeignItemStatic, ForeignItemType};
 use crate::pieces::{kept_tokens, member_macro, type_head};
 use crate::sig::{Safety, Signature, foreign_signature, safe_or_unsafe};
-use crate::simple::StaticMutability;
+use crate::simple::{StaticMutability, static_mutability};
 use syn_lower::attr::outer_attributes;
 use syn_lower::where_clause::where_clause;
 use syn_lower::{Attribute, Generics, Type, WhereClause};
@@ -253,7 +253,7 @@ fn bare_static(input: &mut ParseBuffer<'_>) -> Parsed<BareStatic>
     Ok(BareStatic {
         safety: safe_or_unsafe(input),
         static_token: input.read()?,
-        mutability: input.read()?,
+        mutability: static_mutability(input),
         ident: input.read()?,
         colon_token: input.read()?,
         ty: input.read()?,

@@ -236,7 +236,7 @@ pub(crate) fn unsafe_only(input: &mut ParseBuffer<'_>) -> Safety
 
 /// The word of this kind where it is next. It takes no memory.
 #[tactic(auto, using(crate::proofs::Standing::word_present, crate::proofs::Standing::no_word))]
-fn standing<K: WordKind>(input: &mut ParseBuffer<'_>) -> Option<Word<K>>
+pub(crate) fn standing<K: WordKind>(input: &mut ParseBuffer<'_>) -> Option<Word<K>>
     ensures read { MatchOption result
         ((sees (at_word K.text) input.old ≡ false) × (input.new ≡ input.old))
         (λ w. (sees (at_word K.text) input.old ≡ true) × (take_token (word_kind K.text) input.old ≡ Some (syntax_of_word K.text w.span, input.new))) }

@@ -1,20 +1,22 @@
 //! Parsers of constants and statics.
-ghost use Rattle.std.specs.Prelude.{◌≡◌, refl};
+ghost use Rattle.std.specs.Prelude.{◌≡◌, ◌≤◌, IfErr, Some};
 ghost use Rattle.syn_grammar.specs.Rules as rules;
 ghost use Rattle.syn_grammar.specs.Forms.{optional};
 ghost use Rattle.syn_grammar.specs.Grammar.{Both};
 ghost use Rattle.syn_grammar.specs.Words.{w_mut};
 ghost use Rattle.syn_grammar.specs.Run.{wrap};
-ghost use Rattle.syn_parse.specs.Meanings.{meaning_of};
+ghost use Rattle.syn_grammar.specs.Take.{left};
 ghost use Rattle.syn_tokens.specs.Kinds.{colon_syntax, eq_syntax, semi_syntax};
 ghost use Rattle.syn_lower.specs.Attributes.{attributes_syntax};
 ghost use Rattle.syn_lower.specs.Types.{syntax_of_Type};
-ghost use Rattle.syn_lower.specs.Parsing.{of, rule, meaning_of_rule, parse_form, parse_rule, Computes, Moved, itself, IsSyntax};
+ghost use Rattle.syn_lower.specs.Parsing.{of, rule, meaning_of_rule, parse_form, parse_rule, Computes, Kept, Moved, Outcome, itself, IsSyntax, IsSyntaxError};
 ghost use Rattle.syn_tree.specs.Derive.{item_of};
 ghost use Rattle.syn_tree.specs.Restriction.{syntax_of_Visibility};
 ghost use Rattle.syn_item.specs.ItemForms.{const_form, static_form, value_form};
+ghost use Rattle.syn_item.specs.Simple.{mutability_syntax, syntax_of_StaticMutability};
 
 use crate::names::{OrUnderscore, name_or};
+use crate::sig::standing;
 use crate::simple::{ItemConst, ItemStatic, StaticMutability};
 use syn_lower::attr::outer_attributes;
 use syn_lower::{Attribute, Generics, Type};
@@ -22,7 +24,8 @@ use syn_parse::buffer::ParseBuffer;
 use syn_parse::read::Read;
 use syn_parse::read::refusal::Parsed;
 use syn_recognize::deferred::DeferredExpr;
-use syn_tokens::token::{Colon, Eq, Mut, Semi};
+use syn_tokens::error::Result;
+use syn_tokens::token::{Colon, Eq, Semi, kind};
 use syn_tree::item::ConstModifiers;
 use syn_tree::restriction::Visibility;
 
@@ -125,7 +128,7 @@ pub(crate) fn static_item(
     ensures moved { Moved input.old result input.new }
 {
     let static_token = input.read()?;
-    let mutability = input.read()?;
+    let mutability = static_mutability(input);
     let ident = input.read()?;
     let (colon_token, ty, eq_token, expr, semi_token) = typed_value(input)?;
     Ok(ItemStatic {
@@ -142,19 +145,41 @@ pub(crate) fn static_item(
     })
 }
 
-/// `mut` where it is next. It is never refused.
+/// `mut` where it is next.
+#[tactic(auto, using(syn_grammar::proofs::Each::static_mutability_is))]
+pub(crate) fn static_mutability(input: &mut ParseBuffer<'_>) -> StaticMutability
+    ensures part { parse_form (optional w_mut) input.old ≡ Some (mutability_syntax result, input.new) }
+    ensures reads { parse_rule rules.static_mutability input.old ≡ Some (syntax_of_StaticMutability result, input.new) }
+    ensures kept { left input.new ≤ left input.old }
+{
+    match standing::<kind::Mut>(input) {
+        Some(word) => StaticMutability::Mut(word),
+        None => StaticMutability::None,
+    }
+}
+
+impl StaticMutability {
+    /// Parses `mut` where it is next. Else it reads nothing, and it is `StaticMutability::None`. It is `Ok` on every buffer, and takes no
+    /// memory.
+    pub fn parse(input: &mut ParseBuffer<'_>) -> Result<StaticMutability>
+        ensures outcome { Outcome IsSyntaxError syntax_of_StaticMutability (rule rules.static_mutability) input.old result input.new }
+        ensures reads { Computes IsSyntaxError syntax_of_StaticMutability (parse_rule rules.static_mutability input.old) result input.new }
+        ensures ok { IfErr result (λ _. ⊥) }
+        ensures kept { Kept input.old result input.new }
+    {
+        Ok(static_mutability(input))
+    }
+}
+
+/// `mut` where it is next. It is never refused: `StaticMutability::parse` says so.
 impl Read for StaticMutability {
-    ghost form = { of (optional w_mut) };
+    ghost form = { of (rule rules.static_mutability) };
 
     ghost takes = { 0 };
 
-    ghost meaning = { meaning_of _ refl };
+    ghost meaning = { meaning_of_rule rules.static_mutability };
 
     fn read(input: &mut ParseBuffer<'_>) -> Parsed<StaticMutability> {
-        if input.peek::<Mut>() {
-            Ok(StaticMutability::Mut(input.read()?))
-        } else {
-            Ok(StaticMutability::None)
-        }
+        Ok(static_mutability(input))
     }
 }

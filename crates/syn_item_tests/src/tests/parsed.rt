@@ -7,7 +7,9 @@ use syn_item::item::Item;
 use syn_item::sig::{
     FnArg, Receiver, ReceiverKind, SafeOrUnsafe, Safety, Signature, UnsafeOnly, foreign_signature,
 };
-use syn_item::simple::{ItemConst, ItemMod, ItemType, ItemUse, WhereClausePlacement};
+use syn_item::simple::{
+    ItemConst, ItemMod, ItemType, ItemUse, StaticMutability, WhereClausePlacement,
+};
 use syn_item::use_tree::{UseName, UseTree};
 use syn_parse::buffer::ParseBuffer;
 use syn_parse::limits::{STACK, USE_TREE};
@@ -152,6 +154,33 @@ fn only_unsafe(rt: HostRuntime) {
     assert!(rt; matches!(unsafe_only(&rt, alloc, "(unsafe)"), (Safety::Default, true)));
     let wrapped: UnsafeOnly = part(&rt, alloc, "unsafe");
     assert!(rt; matches!(wrapped.0, Safety::Unsafe(_)));
+}
+
+/// Whether `StaticMutability::parse` finds `mut` in a text, and whether something is left.
+fn finds_mut(rt: &impl Abort, alloc: Global, text: &str) -> (bool, bool) {
+    let tokens = tokens(rt, alloc, text);
+    let mut input = ParseBuffer::new(&tokens);
+    let mutability = value(rt, StaticMutability::parse(&mut input));
+    (
+        matches!(mutability, StaticMutability::Mut(_)),
+        !input.is_empty(),
+    )
+}
+
+/// `mut` is read where it is next, and else nothing; it is never refused.
+#[test]
+fn static_mutability(rt: HostRuntime) {
+    let alloc = rt.alloc();
+    assert_eq!(rt; finds_mut(&rt, alloc, "mut"), (true, false));
+    assert_eq!(rt; finds_mut(&rt, alloc, "mut a"), (true, true));
+    assert_eq!(rt; finds_mut(&rt, alloc, "(mut)"), (false, true));
+    assert_eq!(rt; finds_mut(&rt, alloc, ""), (false, false));
+}
+
+/// By default neither `safe` nor `unsafe` is present.
+#[test]
+fn default_safety(rt: HostRuntime) {
+    assert!(rt; matches!(Safety::default(), Safety::Default));
 }
 
 /// A foreign signature may be `safe`, and no other.

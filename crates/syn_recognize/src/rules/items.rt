@@ -70,6 +70,14 @@ static CONST_ITEM_REST_1: Form = Form::Then(
     ),
 );
 
+/// `mut` if it is next, or nothing: the mutability of a static, by itself. (Statics read it as a part of their own
+/// rules.)
+static STATIC_MUTABILITY: Form = Form::When(
+    Look::Word(Word::Mut),
+    &Form::Token(Token::Word(Word::Mut)),
+    &Form::Empty,
+);
+
 /// A static with its attributes.
 static STATIC_ITEM: Form = Form::Then(
     &Form::Rule(Rule::ATTRIBUTES),
@@ -403,17 +411,17 @@ pub(super) fn form_at_1(place: u8) -> &'static Form
         1 => &FUNCTION_REST,
         2 => &CONST_ITEM,
         3 => &CONST_ITEM_REST,
-        4 => &STATIC_ITEM,
-        5 => &STATIC_ITEM_REST,
-        6 => &EXTERN_CRATE,
-        7 => &EXTERN_CRATE_REST,
-        8 => &USE_TREE,
-        9 => &USE_TREES,
-        10 => &ROOT_MARK,
-        11 => &ROOTED_TREE,
-        12 => &ROOTED_TREES,
-        13 => &USE_ITEM,
-        _ => &USE_ITEM_REST,
+        4 => &STATIC_MUTABILITY,
+        5 => &STATIC_ITEM,
+        6 => &STATIC_ITEM_REST,
+        7 => &EXTERN_CRATE,
+        8 => &EXTERN_CRATE_REST,
+        9 => &USE_TREE,
+        10 => &USE_TREES,
+        11 => &ROOT_MARK,
+        12 => &ROOTED_TREE,
+        13 => &ROOTED_TREES,
+        _ => &USE_ITEM,
     }
 }
 
@@ -423,19 +431,20 @@ pub(super) fn form_at_2(place: u8) -> &'static Form
     ensures { parse_form (grammar_of result.now) ≡ parse_form (table (items_2_rule place)) }
 {
     match place {
-        0 => &MODULE_ITEM,
-        1 => &MODULE_ITEM_REST,
-        2 => &ALIAS_BOUNDS,
-        3 => &TYPE_BOUNDS,
-        4 => &ALIAS,
-        5 => &TRAIT_ALIAS,
-        6 => &TRAIT_ALIAS_REST,
-        7 => &TYPE_ITEM,
-        8 => &TYPE_ITEM_REST,
-        9 => &MACRO_END,
-        10 => &MACRO_ITEM,
-        11 => &MACRO_ITEM_REST,
-        12 => &MACRO_AS_ITEM,
+        0 => &USE_ITEM_REST,
+        1 => &MODULE_ITEM,
+        2 => &MODULE_ITEM_REST,
+        3 => &ALIAS_BOUNDS,
+        4 => &TYPE_BOUNDS,
+        5 => &ALIAS,
+        6 => &TRAIT_ALIAS,
+        7 => &TRAIT_ALIAS_REST,
+        8 => &TYPE_ITEM,
+        9 => &TYPE_ITEM_REST,
+        10 => &MACRO_END,
+        11 => &MACRO_ITEM,
+        12 => &MACRO_ITEM_REST,
+        13 => &MACRO_AS_ITEM,
         _ => &MACRO_AS_ITEM_REST,
     }
 }

@@ -2,7 +2,7 @@
 use crate::tests::asserts::{assert_text, tokens_of, value};
 use std::alloc::Global;
 use std::process::Abort;
-use syn::canon::{canonical, same_form};
+use syn::canon::{canonical, join_items, same_form};
 use syn::derive::DeriveInput;
 use syn::reader::token_text;
 use syn::restriction::Visibility;
@@ -54,6 +54,18 @@ fn forms_without_spacing(rt: HostRuntime) {
     let alone = restricted(&rt, rt.alloc(), Spacing::Alone);
     assert!(rt; joint != alone);
     assert!(rt; value(&rt, same_form::<Visibility>(joint, alone)));
+}
+
+/// Items, one a piece, are joined in order.
+#[test]
+fn joined_items(rt: HostRuntime) {
+    let alloc = rt.alloc();
+    let pieces = [
+        tokens_of(&rt, alloc, "struct A<>;"),
+        tokens_of(&rt, alloc, "fn f();"),
+    ];
+    let joined = value(&rt, join_items(alloc, &pieces));
+    assert_text(&rt, token_text(&joined), "struct A ; fn f ( ) ;");
 }
 
 /// It is refused to compare two forms where either is refused.

@@ -91,8 +91,8 @@ fn copied(rt: HostRuntime) {
 fn local(rt: &impl Abort, alloc: Global) -> Stmt {
     Stmt::Local(Local {
         attrs: Vec::new(alloc),
-        modifiers: LocalModifiers::default(),
         let_token: Let::default(),
+        modifiers: LocalModifiers::default(),
         pat: tree_of(rt, alloc, "c"),
         init: Some(LocalInit {
             eq_token: Eq::default(),

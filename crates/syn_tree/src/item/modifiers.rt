@@ -1,5 +1,5 @@
 //! Words and marks that few items have: what a caller that knows none of them refuses by `require_empty`.
-ghost use Rattle.std.specs.Prelude.{◌++◌};
+ghost use Rattle.std.specs.Prelude.{◌≡◌, ◌++◌, None};
 ghost use Rattle.syn_tree.specs.Modifiers.{Reports, const_faults, fn_faults, impl_faults, trait_faults, type_faults, unexpected};
 
 use syn_tokens::error::{Error, Result};
@@ -8,25 +8,25 @@ use syn_tokens::token;
 use syn_tokens::token::{Auto, Const, Not};
 
 /// The modifiers of a constant.
-#[derive(Clone, Copy, Debug, Default)]
+#[derive(Clone, Copy, Debug)]
 pub struct ConstModifiers {
     pub defaultness: Option<token::Default>,
 }
 
 /// The modifiers of a function.
-#[derive(Clone, Copy, Debug, Default)]
+#[derive(Clone, Copy, Debug)]
 pub struct FnModifiers {
     pub defaultness: Option<token::Default>,
 }
 
 /// The modifiers of a type alias.
-#[derive(Clone, Copy, Debug, Default)]
+#[derive(Clone, Copy, Debug)]
 pub struct TypeModifiers {
     pub defaultness: Option<token::Default>,
 }
 
 /// The modifiers of an `impl`: `default` and `const` before it, and the `!` of a trait that is not implemented.
-#[derive(Clone, Copy, Debug, Default)]
+#[derive(Clone, Copy, Debug)]
 pub struct ImplModifiers {
     pub defaultness: Option<token::Default>,
     pub constness: Option<Const>,
@@ -34,10 +34,62 @@ pub struct ImplModifiers {
 }
 
 /// The modifiers of a trait: `const` before it, and `auto` directly before its word.
-#[derive(Clone, Copy, Debug, Default)]
+#[derive(Clone, Copy, Debug)]
 pub struct TraitModifiers {
     pub constness: Option<Const>,
     pub auto_token: Option<Auto>,
+}
+
+/// No modifier.
+impl Default for ConstModifiers {
+    ghost is_default = { λ modifiers. modifiers ≡ record { defaultness = None } };
+
+    fn default() -> ConstModifiers {
+        ConstModifiers { defaultness: None }
+    }
+}
+
+/// No modifier.
+impl Default for FnModifiers {
+    ghost is_default = { λ modifiers. modifiers ≡ record { defaultness = None } };
+
+    fn default() -> FnModifiers {
+        FnModifiers { defaultness: None }
+    }
+}
+
+/// No modifier.
+impl Default for TypeModifiers {
+    ghost is_default = { λ modifiers. modifiers ≡ record { defaultness = None } };
+
+    fn default() -> TypeModifiers {
+        TypeModifiers { defaultness: None }
+    }
+}
+
+/// No modifier.
+impl Default for ImplModifiers {
+    ghost is_default = { λ modifiers. modifiers ≡ record { defaultness = None; constness = None; polarity = None } };
+
+    fn default() -> ImplModifiers {
+        ImplModifiers {
+            defaultness: None,
+            constness: None,
+            polarity: None,
+        }
+    }
+}
+
+/// No modifier.
+impl Default for TraitModifiers {
+    ghost is_default = { λ modifiers. modifiers ≡ record { constness = None; auto_token = None } };
+
+    fn default() -> TraitModifiers {
+        TraitModifiers {
+            constness: None,
+            auto_token: None,
+        }
+    }
 }
 
 impl ConstModifiers {

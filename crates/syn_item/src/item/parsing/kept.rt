@@ -18,7 +18,7 @@ ghost use Rattle.syn_item.specs.Planned.{Follows, IsRead};
 use super::Begun;
 use crate::item::Item;
 use crate::pieces::type_head;
-use crate::simple::{ItemStatic, type_after_head};
+use crate::simple::{ItemStatic, static_mutability, type_after_head};
 use crate::use_tree::use_item;
 use syn_parse::buffer::ParseBuffer;
 use syn_parse::read::refusal::{Parsed, Refusal};
@@ -62,7 +62,7 @@ pub(super) fn static_or_kept(begun: Begun, input: &mut ParseBuffer<'_>) -> Parse
     ensures follows { (ts : Stream) → Follows IsSyntax syntax_of_Item rules.kept_item ts (run_plan (plan.static_plan (attributes_syntax begun.attrs.items) (syntax_of_Visibility begun.vis)) rules.kept_item ts input.old) result input.new }
 {
     let static_token = input.read()?;
-    let mutability = input.read()?;
+    let mutability = static_mutability(input);
     let ident = input.read()?;
     if !input.peek::<Colon>() {
         return Ok(None);

@@ -15,7 +15,7 @@ use Rattle.syn_lower.specs.Attributes.{attributes_syntax}
 use Rattle.syn_lower.specs.Types.{syntax_of_Type}
 use Rattle.syn_tree.specs.Restriction.{syntax_of_Visibility}
 use Rattle.syn_item.specs.Planned.{OnlyKept}
-use Rattle.syn_item.specs.Simple.{syntax_of_StaticMutability}
+use Rattle.syn_item.specs.Simple.{mutability_syntax}
 use Rattle.syn_item.proofs.ItemPlans.{untyped_kept, unvalued_kept}
 use Rattle.syn_item.proofs.item.parsing.kept.static_or_kept.Goals as goal
 
@@ -25,11 +25,11 @@ returns-then-not-peek c =
     let v = syntax_of_Visibility c.args.begun.vis in
     let m = c.args.input.now in
     let w = static_syntax c.in_ok-static_token.static_token in
-    let u = syntax_of_StaticMutability c.in_ok-mutability.mutability in
+    let u = mutability_syntax c.static_mutability.result in
     let n = syntax_of_ident c.in_ok-ident.ident in
     let m1 = c.read.new.self in
-    let m2 = c.read-2.new.self in
-    let m3 = c.read-3.new.self in
+    let m2 = c.static_mutability.new.input in
+    let m3 = c.read-2.new.self in
     let word_read : parse_form (item_word w_static) m ≡ Some (w, m1) = search rules in
     let mut_read : parse_form (optional w_mut) m1 ≡ Some (u, m2) = search rules in
     let name_read : parse_form (plainly name) m2 ≡ Some (n, m3) = search rules in
@@ -43,15 +43,15 @@ returns-then-not-peek-2 c =
     let v = syntax_of_Visibility c.args.begun.vis in
     let m = c.args.input.now in
     let w = static_syntax c.in_ok-static_token.static_token in
-    let u = syntax_of_StaticMutability c.in_ok-mutability.mutability in
+    let u = mutability_syntax c.static_mutability.result in
     let n = syntax_of_ident c.in_ok-ident.ident in
     let s = colon_syntax c.in_ok-colon_token.colon_token in
     let t = syntax_of_Type c.in_ok-ty.ty.value in
     let m1 = c.read.new.self in
-    let m2 = c.read-2.new.self in
-    let m3 = c.read-3.new.self in
-    let m4 = c.read-4.new.self in
-    let m5 = c.read-5.new.self in
+    let m2 = c.static_mutability.new.input in
+    let m3 = c.read-2.new.self in
+    let m4 = c.read-3.new.self in
+    let m5 = c.read-4.new.self in
     let word_read : parse_form (item_word w_static) m ≡ Some (w, m1) = search rules in
     let mut_read : parse_form (optional w_mut) m1 ≡ Some (u, m2) = search rules in
     let name_read : parse_form (plainly name) m2 ≡ Some (n, m3) = search rules in
