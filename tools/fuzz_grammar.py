@@ -1,19 +1,21 @@
 #!/usr/bin/env python3
 """Compares the table of the written grammar with an oracle: an executable reading of what the grammar should be, in Python.
 
-    tools/fuzz_grammar.py --oracle FOLDER [--count N] [--seed N] [--kinds KIND,KIND..]
+    tools/fuzz_grammar.py --oracle FOLDER [--earlier] [--count N] [--seed N] [--kinds KIND,KIND..]
 
 The repository holds no oracle. Give the folder of one by --oracle, or in the environment variable ORACLE; without it nothing is compared,
 and the status is 2. It must have oracle.py (with KINDS, parse2, parse_prefix, flat, SynErr, the token classes, and a function for each
 part below) and gen.py (random sentences of its own).
 
-The oracle builds the grammar in stages. It is asked as at the one that STAGE names, the last: items of all kinds, files, and expressions
-with struct literals.
+The oracle builds the grammar in stages. It reads as at STAGE, the last: items of all kinds, files, and expressions with struct literals.
+With --earlier the grammar before `const` traits and impls and struct literals (specs/Before.antt) takes the place of the table, and the
+oracle reads as at EARLIER_STAGE, the one before these forms. The random sentences are those of today's table, so the new forms are tried too.
 
 Random token trees, from sentences of the table and of the oracle's own, unchanged and changed, are read by the table
 (by a reader in Python of specs/Table.antt) and by the oracle. They must agree whether the whole is read, on its print, token by token
 with spacing; and whether a beginning is read, on its print and on how many trees are left. The worked examples (tools/examples.txt)
-of rules that the oracle knows are compared as well. Prints each difference, and a summary; ends with 1 where something differs."""
+are compared as well, those of rules that the oracle doesn't know as items. Prints each difference, and a summary; the status is 1 if
+something differs."""
 import argparse
 import os
 import random
@@ -21,6 +23,7 @@ import sys
 import time
 from pathlib import Path
 
+from grammarlib.earlier import earlier_table
 from grammarlib.examples import parse
 from grammarlib.lookaheads import Lookaheads
 from grammarlib.reader import Reader, Refused
@@ -31,8 +34,8 @@ from kindslib.table import ORACLE_KINDS as KINDS
 
 HERE = Path(__file__).resolve().parent
 CRATE = HERE.parent / 'crates' / 'syn_grammar'
-# how far the oracle builds the grammar
-STAGE = 15
+# how far the oracle builds the grammar, and how far before the change of which specs/Before.antt has the earlier state
+STAGE, EARLIER_STAGE = 15, 13
 # the rules of parts, which the oracle reads by a function and not by a kind
 PARTS = [
     'attributes', 'meta', 'module_path', 'type_path', 'type_words', 'return_type', 'generic_arguments', 'generic_argument',
@@ -201,11 +204,11 @@ PART_SENTENCES = {
 
 
 class Oracle:
-    def __init__(self, folder):
+    def __init__(self, folder, stage=STAGE):
         sys.path.insert(0, str(folder))
         import gen
         import oracle
-        oracle.STAGE = STAGE
+        oracle.STAGE = stage
         # the table looks into invisible groups in three places alone
         oracle.has_none = lambda trees: False
         oracle.plain_path = lambda ty: ty if ty.k == 'TypePath' and ty.qself is None else None
@@ -213,7 +216,7 @@ class Oracle:
         self.signs = {d: '' if d == 'None' else texts[0] for d, texts in DELIMITER_TEXTS.items()}
         self.delimiters = {sign: d for d, sign in self.signs.items()}
         readers = part_readers(oracle)
-        oracle.API_KINDS.update({rule: (readers[rule], STAGE) for rule in PARTS})
+        oracle.API_KINDS.update({rule: (readers[rule], stage) for rule in PARTS})
 
     def to(self, trees):
         o = self.o
@@ -315,15 +318,22 @@ class Comparison:
             print(f'  beginning: table {first}, oracle {second}', flush=True)
 
 
+def kinds_of(example, kinds):
+    """As which of these kinds a worked example is read: those of its rule; as an item if the oracle doesn't know the rule."""
+    is_known = any(rule == example.rule for _, rule in pairs())
+    return [(kind, rule) for kind, rule in kinds if rule == (example.rule if is_known else 'item')]
+
+
 def compare(options):
     source = Source(options.crate)
     lookaheads = Lookaheads(source)
-    oracle = Oracle(options.oracle)
+    oracle = Oracle(options.oracle, EARLIER_STAGE if options.earlier else STAGE)
+    table = earlier_table(source) if options.earlier else source.table
     kinds = [pair for pair in pairs() if not options.kinds or pair[0] in options.kinds.split(',')]
-    found = Comparison(Table(Reader(lookaheads, source.table)), oracle)
+    found = Comparison(Table(Reader(lookaheads, table)), oracle)
     for example in parse(HERE / 'examples.txt', source.rules):
-        for kind in [k for k, rule in kinds if rule == example.rule]:
-            found.of(kind, example.rule, read_text(example.text))
+        for kind, rule in kinds_of(example, kinds):
+            found.of(kind, rule, read_text(example.text))
     worked = found.inputs
     dice = random.Random(options.seed)
     sentences, generator = Sentences(lookaheads, source.table, dice), oracle.own.G(options.seed, STAGE)
@@ -349,6 +359,7 @@ def without_oracle(message):
 def main():
     parser = argparse.ArgumentParser(description=__doc__, formatter_class=argparse.RawDescriptionHelpFormatter)
     parser.add_argument('--oracle', type=Path, default=os.environ.get('ORACLE') and Path(os.environ['ORACLE']))
+    parser.add_argument('--earlier', action='store_true', help='the earlier grammar, of specs/Before.antt')
     parser.add_argument('--count', type=int, default=20000)
     parser.add_argument('--seed', type=int, default=1)
     parser.add_argument('--kinds', default='', help='of these kinds and parts alone')

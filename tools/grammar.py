@@ -49,7 +49,7 @@ def worked_examples(source):
     return files, lacking + borders.lacking(), borders
 
 
-def settle_lacking(lacking):
+def report_lacking(lacking):
     for line in lacking[:SHOWN]:
         print(f'grammar: tools/examples.txt lacks: {line}', file=sys.stderr)
     if len(lacking) > SHOWN:
@@ -79,7 +79,7 @@ def read_table(crate):
         sys.exit(f'grammar: {fault}')
 
 
-def settle_unexplained(source):
+def report_unexplained(source):
     for name in source.without_sentence():
         print(f'grammar: no sentence explains `{name}`', file=sys.stderr)
     page = HERE.parent / 'docs' / 'reference' / 'RULES.md'
@@ -112,8 +112,8 @@ def main():
     if options.lower:
         lower(borders)
         return
-    settle_unexplained(source)
-    settle_lacking(lacking)
+    report_unexplained(source)
+    report_lacking(lacking)
     written = {options.crate / p: text for p, text in files.items()} | {options.examples / p: text for p, text in examples.items()}
     stale = [p for p, text in written.items() if not p.exists() or p.read_text() != text]
     others = [p for p in sorted((options.examples / 'proofs').glob('Examples*.antt')) if p not in written]

@@ -2,11 +2,11 @@
 """Refuses each request for memory of each call, one after another, and fails if the call does not return that error.
 
     tools/memory.py [--strict] [--told] [--bin PROGRAM]     calls of the library, on the inputs of tools/memory_inputs.txt
-    tools/memory.py program [--strict] [--told]             runs of the program, on a few inputs
+    tools/memory.py program [--strict]                      runs of the program, on those inputs that are of its kinds
 
-The program `memory_sweep` makes the calls (see its src/main.rt). It gets each input, and a file that is made of all inputs; its last
-line has the counts. A call may repeat the request that was refused, and then return the right result; such runs are counted as `again`,
-and are errors with --strict. With --told each call that does so is printed.
+The program `memory_sweep` makes the calls (see its src/main.rt). It gets each input, and a block and a file that are made of all inputs;
+its last line has the counts. A call may repeat the request that was refused, and then return the right result; such runs are counted as
+`again`, and are errors with --strict. With --told each call that does so is printed.
 
 `program` runs `syn_canon`. Each run with a refused request has to end with status 3, to write nothing to standard output, and to report
 that memory is refused; or it ends as usual, which counts as `again`.
@@ -25,6 +25,8 @@ from collections import Counter
 from dataclasses import dataclass
 from pathlib import Path
 
+import kinds
+import trial_build
 import try_tests
 from gatelib.kit import kit_for_trials
 
@@ -40,16 +42,15 @@ FOUND = re.compile(r"(wrong|again) (\d+) (.*)")
 COUNT = re.compile(r"(\d+) ([a-z]+)")
 COUNTED = ("calls", "runs", "memory", "again", "wrong")
 
-# The words of the program and its standard input, and more requests than any of these runs makes.
+# Words of the program and its standard input; the inputs of its kinds are printed too.
 RUNS = [
     ("print item", "#[a] pub struct S<T, 'a>(pub(in b) &'a [T; 1 + 2]);"),
     ("check stmts", "let a = b(c); d::<E>().f?"),
     ("list", "struct A; use b::c; impl D for E { fn f() {} }"),
 ]
-MOST = 80
+# No run makes so many requests.
+MOST = 1000
 REFUSED = (3, "", "out of memory\n")
-# The line of a trial at the end of a case, after the program's standard error.
-CASE = re.compile(r"(?m)^case=\d+ run=ended status=(\d+) .*\n")
 
 
 @dataclass(frozen=True)
@@ -79,24 +80,37 @@ def inputs_of(text):
 
 
 def of_each_form(inputs):
-    """The shortest of these inputs of each variant, and all that are stored as tokens, since their forms differ. Inputs in a group
-    without delimiters are left out."""
+    """Each of these inputs that is a type, a pattern, an expression or stored as tokens, since each has a form of its own; of the others
+    the shortest of each variant. Inputs in a group without delimiters are left out."""
     shortest = {}
     for it in sorted(inputs, key=lambda it: len(it.text)):
         if not it.is_in_group:
-            shortest.setdefault((it.type, it.text if it.variant == "Verbatim" else it.variant), it)
+            has_own_form = it.variant == "Verbatim" or it.type in ("Type", "Pat", "Expr")
+            shortest.setdefault((it.type, it.text if has_own_form else it.variant), it)
     return list(shortest.values())
 
 
-def whole_file(inputs):
-    """A file with an item and a member of each form, and in it a type, a pattern, an expression and a statement of each form."""
+def texts_of(inputs):
+    """The texts of each type."""
     texts = {}
     for it in of_each_form(inputs):
         texts.setdefault(it.type, []).append(it.text)
+    return texts
+
+
+def whole_block(inputs):
+    """A block with a statement of each form, and in statements of their own each type, pattern and expression."""
+    texts = texts_of(inputs)
+    parts = ["{", *texts["Stmt"], *(f"let _: {text} = a;" for text in texts["Type"]), *(f"let {text} = a;" for text in texts["Pat"])]
+    return Input("Block", "", " ".join([*parts, *(f"let _ = {text};" for text in texts["Expr"]), "}"]))
+
+
+def whole_file(inputs):
+    """A file with an item and a member of each form, each type as that of a field, and that block as the body of a function."""
+    texts = texts_of(inputs)
     parts = ["#![a]", *texts["Item"], "trait Members {", *texts["TraitItem"], "}", "impl Members {", *texts["ImplItem"], "}"]
     parts += ['extern "C" {', *texts["ForeignItem"], "}", listed("struct Types(", texts["Type"], ");"), "struct Kept { _: struct { a: b } }"]
-    parts += ["fn bodies() {", *texts["Stmt"], listed("let (", texts["Pat"], ") ="), listed("(", texts["Expr"], "); }")]
-    return Input("File", "", " ".join(parts))
+    return Input("File", "", " ".join([*parts, "fn bodies()", whole_block(inputs).text]))
 
 
 def listed(opening, texts, closing):
@@ -147,13 +161,18 @@ def found_in(status, wrote):
 
 def shown(it):
     """The line of an input, shortened."""
-    return it.line if len(it.line) <= 100 else it.line[:100] + " .."
+    return shown_text(it.line)
+
+
+def shown_text(text):
+    """A text, shortened."""
+    return text if len(text) <= 100 else text[:100] + " .."
 
 
 def sweep(options):
     """Sweeps the calls of the library. Returns the counts."""
     inputs = inputs_of(INPUTS.read_text(encoding="utf-8"))
-    inputs.append(whole_file(inputs))
+    inputs += [whole_block(inputs), whole_file(inputs)]
     lines = "".join(it.line + "\n" for it in inputs)
     counts, found = found_in(*(asked(options.bin, lines) if options.bin else tried(lines)))
     # a line without an input has the number 0
@@ -164,51 +183,70 @@ def sweep(options):
     return counts
 
 
-def runs_of(room):
-    """For each run of the program whether a request was refused, and its status, output and errors: MOST runs for each of RUNS."""
-    counter, cases = room / "counter", room / "cases"
-    cases.mkdir()
-    for at in range(len(RUNS) * MOST):
-        words, text = RUNS[at // MOST]
-        (cases / f"{at:04}").write_text(text)
-        (cases / f"{at:04}.args").write_text("".join(word + "\n" for word in words.split()))
-    command = [kit_over_heap(room, f'-DCOUNTER="{counter}"', f"-DMOST={MOST}"), "try"]
-    trial = ["--steps", "1000", "--cases", str(cases)]
-    wrote, told, _ = try_tests.called(trial, room / "crates" / PROGRAM, SECONDS, b"", command)
-    parts = re.split(r"(?m)^== \d+\n", wrote.decode())[1:]
-    *said, _ = CASE.split(told)
-    outcomes = [(int(status), part, said) for status, part, said in zip(said[1::2], parts, said[::2])]
-    if not len(outcomes) == len(parts) == len(counter.read_bytes()) == len(RUNS) * MOST:
-        raise RuntimeError(f"{len(outcomes)} runs ended\n{try_tests.end_of(told)}")
-    came = counter.with_name("counter.came").read_bytes().ljust(len(outcomes), b"\0")
-    return [(byte != 0, outcome) for byte, outcome in zip(came, outcomes)]
+def planned(inputs):
+    """The words and texts of the runs: those of RUNS, and the print of each input that is of a kind of the program."""
+    words = {name: word for word, name, _ in kinds.KINDS}
+    return RUNS + [(f"print {words[it.type]}", it.text) for it in inputs if it.type in words and not it.is_in_group]
+
+
+class Refusing:
+    """The program over a heap that refuses each run one request, or none."""
+
+    def __init__(self, room):
+        """Builds it in this folder. The run of the build is not counted."""
+        try_tests.copied(TOP, room)
+        self.program, self.counter = room / PROGRAM, room / "counter"
+        kit_over_heap(room, f'-DCOUNTER="{self.counter}"')
+        why = trial_build.built(room, PROGRAM, self.program)
+        if why:
+            raise RuntimeError(f"{PROGRAM} was not built\n{try_tests.end_of(why)}")
+        self.file("came").touch()
+        self.counter.unlink()
+        self.runs = 0
+
+    def file(self, name):
+        return self.counter.with_name(f"counter.{name}")
+
+    def run(self, words, text, number):
+        """Refuses this request of a run. Returns whether the run made it, and the status, output and errors of the run."""
+        with self.file("plan").open("ab") as plan:
+            plan.write(number.to_bytes(2, "little"))
+        ran = subprocess.run([self.program, *words.split()], input=text, capture_output=True, text=True)
+        self.runs += 1
+        if self.counter.stat().st_size != self.runs:
+            raise RuntimeError(f"{PROGRAM} {words}: the run was not counted\n{try_tests.end_of(ran.stderr)}")
+        came = self.file("came").read_bytes()
+        return came[self.runs - 1 : self.runs] == b"1", (ran.returncode, ran.stdout, ran.stderr)
 
 
 def judged(words, runs):
-    """The counts of these runs, up to the first without a refused request, which has to end as usual. Wrong runs are printed."""
-    refused = [is_refused for is_refused, _ in runs]
-    if all(refused) or runs[refused.index(False)][1][0] != 0:
-        raise RuntimeError(f"{PROGRAM} {words}: no answer, where {sum(refused)} requests were refused")
-    number = refused.index(False)
-    right = runs[number][1]
-    counts = Counter(calls=1, runs=number + 1)
-    for at, (_, outcome) in enumerate(runs[:number], 1):
-        kind = "memory" if outcome == REFUSED else "again" if outcome == right else "wrong"
+    """The counts of these runs, of which each is refused the next request, up to the first that doesn't make it. That one has to end as
+    usual. Wrong runs are printed."""
+    refused = []
+    for is_refused, outcome in runs:
+        if not is_refused:
+            break
+        refused.append(outcome)
+    else:
+        raise RuntimeError(f"{PROGRAM} {words}: no answer, where {len(refused)} requests were refused")
+    if outcome[0] != 0:
+        raise RuntimeError(f"{PROGRAM} {words}: ended as {outcome}, where no request was refused")
+    counts = Counter(calls=1, runs=len(refused) + 1)
+    for number, each in enumerate(refused, 1):
+        kind = "memory" if each == REFUSED else "again" if each == outcome else "wrong"
         counts[kind] += 1
         if kind == "wrong":
-            print(f"wrong: {PROGRAM} {words}, request {at}: {outcome}")
+            print(f"wrong: {PROGRAM} {words}, request {number}: {each}")
     return counts
 
 
 def program(_options):
     """Sweeps the runs of the program. Returns the counts."""
-    with tempfile.TemporaryDirectory(prefix="memory-") as folder:
-        room = Path(folder)
-        try_tests.copied(TOP, room)
-        runs = runs_of(room)
     counts = Counter()
-    for at, (words, _) in enumerate(RUNS):
-        counts += judged(words, runs[at * MOST : (at + 1) * MOST])
+    with tempfile.TemporaryDirectory(prefix="memory-") as folder:
+        refusing = Refusing(Path(folder))
+        for words, text in planned(inputs_of(INPUTS.read_text(encoding="utf-8"))):
+            counts += judged(f"{words} {shown_text(text)}", (refusing.run(words, text, number) for number in range(1, MOST)))
     return counts
 
 

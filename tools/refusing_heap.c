@@ -20,15 +20,17 @@ void *realloc(void *block, size bytes);
 void free(void *block);
 
 #ifdef COUNTER
-/* The runs of a program count themselves by a byte that each adds to a file, and are refused the first request, the second, and so on
-   up to that of the number MOST, and again the first. A run whose request comes writes a byte to another file, at its own place. */
+/* The runs of a program count themselves by a byte that each adds to a file. The file COUNTER.plan has two bytes for each run, the low one
+   first: the number of the request that it is refused; 0 refuses none. A run whose request comes writes a byte to the file COUNTER.came, at
+   its own place. */
 int open(const char *path, int flags, ...);
 long write(int file, const void *bytes, size count);
 long pwrite(int file, const void *bytes, size count, long place);
+long pread(int file, void *bytes, size count, long place);
 long lseek(int file, long offset, int from);
 int close(int file);
 
-enum { WRONLY = 01, CREAT = 0100, APPEND = 02000, OWNERS = 0600, CURRENT = 1 };
+enum { RDONLY = 0, WRONLY = 01, CREAT = 0100, APPEND = 02000, OWNERS = 0600, CURRENT = 1 };
 
 /* How many runs there were before this one. */
 static long before;
@@ -38,6 +40,15 @@ static void count_run(void) {
     long added = write(file, "", 1);
     before = lseek(file, 0, CURRENT) - added;
     close(file);
+}
+
+/* The number of the request that this run is refused. */
+static size planned(void) {
+    unsigned char bytes[2] = {0, 0};
+    int file = open(COUNTER ".plan", RDONLY);
+    pread(file, bytes, sizeof bytes, before * (long)sizeof bytes);
+    close(file);
+    return bytes[0] + ((size)bytes[1] << 8);
 }
 
 static void tell(void) {
@@ -76,7 +87,7 @@ static int is_refused(size bytes) {
 #ifdef COUNTER
 __attribute__((constructor)) static void begin(void) {
     count_run();
-    left = (size)before % MOST + 1;
+    left = planned();
 }
 #endif
 

@@ -50,13 +50,13 @@ SECONDS = {
     "syn_examples": 280,
     "syn_tokens": 800,
     "syn_parse": 420,
-    "syn_whole": 80,
+    "syn_whole": 180,
     "syn_recognize": 1850,
     "syn_answers": 390,
     "syn_lower": 2710,
     "syn_pat": 990,
     "syn_expr_parse": 1630,
-    "syn_expr": 5700,
+    "syn_expr": 4960,
     "syn_tree": 1260,
     "syn_item": 7570,
     "syn_reader": 240,
@@ -101,7 +101,7 @@ class Task:
         self.key = key
         self.waits, self.lines, self.needs, self.call = given
         self.takes = SECONDS.get(key[0], self.lines) if key[1] == "proof" and self.lines else self.lines
-        self.behind = self.takes
+        self.following = self.takes
         self.jobs = 0
 
     def memory(self, jobs):
@@ -118,8 +118,8 @@ def chained(given):
     # a task comes after those that it waits for
     for task in reversed(tasks.values()):
         for below in task.waits:
-            tasks[below].behind = max(tasks[below].behind, tasks[below].takes + task.behind)
-    return sorted(tasks.values(), key=lambda it: -it.behind)
+            tasks[below].following = max(tasks[below].following, tasks[below].takes + task.following)
+    return sorted(tasks.values(), key=lambda it: -it.following)
 
 
 class Lanes:
@@ -163,7 +163,7 @@ class Lanes:
                 self.start(task, jobs, not self.is_first(task))
 
     def is_first(self, task):
-        return all(it.behind <= task.behind for it in self.running)
+        return all(it.following <= task.following for it in self.running)
 
     def jobs(self, task, count):
         """The jobs of a task if so many are ready: all processors for the first one, and else a share of the rest."""

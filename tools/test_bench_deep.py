@@ -65,7 +65,7 @@ class Runs(unittest.TestCase):
         self.assertEqual(self.fits("kill -SEGV $$", 100), (10, BENCH.ENDED))
         self.assertEqual(self.fits("kill -SEGV $$", 10), (10, None))
 
-    def test_what_a_trial_settles(self):
+    def test_what_a_trial_reports(self):
         said = b"case=0 run=ended status=0 x\ncase=1 run=ended status=139 x\n"
         ran = SimpleNamespace(stderr=said, stdout=b"== 0\n1 texts, 1 beyond trees\n== 1\n")
         self.assertEqual(BENCH.told(ran, 3), [BENCH.REFUSED, BENCH.ENDED, BENCH.ENDED])

@@ -284,10 +284,10 @@ class Checks(InCrate):
         self.assertFalse(prover.has_libraries([self.crate]))
 
     def test_checks_side_by_side_share_the_processors(self):
-        for name, present_in in [("available", lambda: 10**12), ("sched_getaffinity", lambda _: range(5))]:
+        for name, replacement in [("available", lambda: 10**12), ("sched_getaffinity", lambda _: range(5))]:
             module = memory if name == "available" else os
             self.addCleanup(setattr, module, name, getattr(module, name))
-            setattr(module, name, present_in)
+            setattr(module, name, replacement)
         self.assertEqual([prover.jobs(lanes) for lanes in (1, 2, 8)], [5, 3, 1])
 
 

@@ -37,13 +37,13 @@ class Full(unittest.TestCase):
         return {rule: tuple(value(name, rule) for name in ('reads_shown', 'is_alone', 'is_before'))
                 for rule in re.findall(r'^reads_shown (\w+) =', text, re.M)}
 
-    def test_a_path_present_alone(self):
+    def test_a_path_is_alone(self):
         self.assertEqual(self.told([PATH])['a'], ('true', 'true', 'comma ∷ semicolon ∷ []'))
 
-    def test_a_rule_that_is_read_at_the_end_alone_present_alone(self):
+    def test_a_rule_that_is_read_at_the_end_alone_is_alone(self):
         self.assertEqual(self.told([AT_END])['a'], ('true', 'true', 'comma ∷ semicolon ∷ []'))
 
-    def test_a_rule_that_is_not_read_at_the_end_does_not_present_alone(self):
+    def test_a_rule_that_is_not_read_at_the_end_is_not_alone(self):
         self.assertEqual(self.told([NOT_AT_END])['a'], ('true', 'false', '[]'))
 
     def test_a_fact_that_only_must_not_become_true_hinders_nothing(self):
@@ -56,11 +56,11 @@ class Full(unittest.TestCase):
     def test_a_fact_that_is_known_before_the_end_hinders(self):
         self.assertEqual(self.told([RISING])['a'], ('true', 'false', '[]'))
 
-    def test_what_is_kept_as_it_present_may_end_joined(self):
+    def test_what_is_kept_as_it_is_may_end_joined(self):
         told = self.told(CAPTURED)
         self.assertEqual([told[rule][1] for rule in 'ab'], ['false', 'true'])
 
-    def test_a_rule_that_asks_for_a_mark_does_not_present_before_it(self):
+    def test_a_rule_that_asks_for_a_mark_is_not_before_it(self):
         self.assertEqual(self.told([BEFORE_COMMA])['a'], ('true', 'false', 'semicolon ∷ []'))
 
     def test_what_names_a_rule_that_is_not_read_shown_is_not_either(self):

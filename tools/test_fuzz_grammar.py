@@ -1,6 +1,7 @@
 #!/usr/bin/env python3
 """Tests of tools/fuzz_grammar.py: what it compares, and what it says. Run it with no arguments."""
 import os
+import shutil
 import subprocess
 import sys
 import tempfile
@@ -8,16 +9,20 @@ import unittest
 from pathlib import Path
 
 from fuzz_grammar import PART_SENTENCES, PARTS, TO_THE_END, pairs
+from grammarlib import antt
+from grammarlib.earlier import earlier_table
 from grammarlib.source import Source
 
 HERE = Path(__file__).resolve().parent
 CRATE = HERE.parent / 'crates' / 'syn_grammar'
 
-# an oracle that reads by the table itself, but for the kind WRONG, of which it reads nothing; its parts are what it is asked for
+# an oracle that reads by the table itself (at stage 13 by the earlier one), but for the kind WRONG, of which it reads nothing; its parts are
+# what it is asked for
 ORACLE = '''
 from collections import namedtuple
 from pathlib import Path
 from fuzz_grammar import CRATE, Oracle, Table, pairs
+from grammarlib.earlier import earlier_table
 from grammarlib.lookaheads import Lookaheads
 from grammarlib.reader import Reader
 from grammarlib.source import Source
@@ -26,7 +31,8 @@ Ident, Punct = namedtuple('Ident', 'text'), namedtuple('Punct', 'ch joint')
 Lit, Group = namedtuple('Lit', 'kind text'), namedtuple('Group', 'delim trees')
 API_KINDS = {}
 SOURCE = Source(CRATE)
-TABLE = Table(Reader(Lookaheads(SOURCE), SOURCE.table))
+TABLES = {stage: Table(Reader(Lookaheads(SOURCE), table)) for stage, table in ((15, SOURCE.table), (13, earlier_table(SOURCE)))}
+STAGE = None
 
 
 class SynErr(Exception):
@@ -50,7 +56,7 @@ def __getattr__(name):
 
 def parse_prefix(kind, trees):
     trees = Mirror().back(trees)
-    found = TABLE.beginning(dict(pairs())[kind], trees)
+    found = TABLES[STAGE].beginning(dict(pairs())[kind], trees)
     if found is None or kind == WRONG:
         raise SynErr()
     return found[0], trees[len(trees) - found[1]:]
@@ -119,6 +125,38 @@ class Fuzz(unittest.TestCase):
     def test_a_rule_that_is_read_otherwise_is_known(self):
         _, said, _ = fuzz('--oracle', self.oracle('type'), '--count', '1')
         self.assertIn("DIFFERENT type: &'a mut T\n", said)
+
+    def test_the_earlier_grammar(self):
+        status, said, faults = fuzz('--oracle', self.oracle(), '--count', '60', '--earlier')
+        self.assertEqual((status, faults), (0, ''), said)
+        self.assertRegex(said, r' 0 differ \(\d+ s, seed 1\)')
+
+    def test_each_wrong_rule_of_the_earlier_grammar_is_found(self):
+        rules = [rule for rule, form in earlier_table(Source(CRATE)).items() if form != Source(CRATE).table[rule]]
+        self.assertEqual(len(rules), 8)
+        for rule in [*rules, 'visibility']:
+            words = ['--count', '1', '--earlier', '--kinds', 'item,primary,visibility', '--crate', self.crate_without(rule)]
+            status, said, faults = fuzz('--oracle', self.oracle(), *words)
+            self.assertEqual((status, faults), (1, ''), f'{rule}: {said}')
+            self.assertIn('DIFFERENT ', said)
+
+    def crate_without(self, rule):
+        """A copy of the crate whose earlier grammar reads nothing by this rule."""
+        folder = tempfile.TemporaryDirectory()
+        self.addCleanup(folder.cleanup)
+        shutil.copytree(CRATE / 'specs', Path(folder.name) / 'specs')
+        path = Path(folder.name) / 'specs/Before.antt'
+        head, *parts = path.read_text().split('\nbefore ')
+        parts = [part for part in parts if not part.startswith(f'{rule} ')]
+        path.write_text('\nbefore '.join([head, f'{rule} = never', *parts]))
+        return folder.name
+
+    def test_an_earlier_grammar_that_ends_otherwise(self):
+        crate = self.crate_without('visibility')
+        path = Path(crate) / 'specs/Before.antt'
+        path.write_text(path.read_text().replace('before k = table k', 'before k = never'))
+        with self.assertRaisesRegex(antt.Fault, 'the last line is `before k = table k`'):
+            earlier_table(Source(crate))
 
     def test_without_an_oracle(self):
         status, said, faults = fuzz()

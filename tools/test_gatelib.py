@@ -122,7 +122,7 @@ class Clock:
 class ProgressOfProofs(unittest.TestCase):
     def setUp(self):
         self.clock, self.said = Clock(), []
-        task = lambda name, takes, behind, kind="proof": SimpleNamespace(key=(name, kind), takes=takes, behind=behind, lines=takes)
+        task = lambda name, takes, following, kind="proof": SimpleNamespace(key=(name, kind), takes=takes, following=following, lines=takes)
         self.low, self.tests, self.high, self.wide = task("low", 1000, 3000), task("low", 0, 0, "tests"), task("high", 2000, 2000), task("wide", 5000, 5000)
         self.progress = Progress([self.low, self.tests, self.high, self.wide], 4, self.said.append, self.clock)
 

@@ -114,7 +114,7 @@ class Table(unittest.TestCase):
             Theorems(source, Lookaheads(source)).files(parse(path, source.rules))
         self.assertIn('otherwise: wrong', str(found.exception))
 
-    def test_examples_present_in_the_file_of_their_subject(self):
+    def test_examples_are_in_the_file_of_their_subject(self):
         source = Source(CRATE)
         path = self.folder / 'examples.txt'
         path.write_text('subject One: a thing\npublic  visibility  pub  => pub\nsubject Two: others\narrow  return_type  =>a  => .. =>a\n')

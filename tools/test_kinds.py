@@ -104,7 +104,7 @@ class Kinds(unittest.TestCase):
         self.assertNotIn("attrs", same)
         self.assertNotIn("paren_token", same)
 
-    def test_a_struct_without_fields_present_for_what_its_specification_says(self):
+    def test_a_struct_without_fields_represents_what_its_specification_says(self):
         source = self.crate()
         self.assertNotIn("for Place", copies(source)[self.top / "src/copies/things.rt"])
         source = self.crate(specs=SPECS + "abbrev pub syntax_of_Place : Place → Syntax\n")
@@ -139,7 +139,7 @@ class Kinds(unittest.TestCase):
         self.assertIn("use Rattle.syn_lower.specs.Things.{syntax_of_Choice}\n", view)
         self.assertIn("view_Holder a = Node (syntax_of_Choice a.choice)\n", view)
 
-    def test_imports_present_in_the_order_of_the_formatter(self):
+    def test_imports_are_in_the_order_of_the_formatter(self):
         lines = import_lines({"a::b": ["C", "D"], "a::b::e": ["f"], "a": ["g"], "a::c": ["H"]})
         self.assertEqual(lines, "use a::b::e::f;\nuse a::b::{C, D};\nuse a::c::H;\nuse a::g;\n")
 
@@ -150,7 +150,7 @@ class Kinds(unittest.TestCase):
         copy = copies(source)[self.top / "src/copies/things.rt"]
         self.assertIn("Choice::Mark(value) => Ok(Choice::Mark(*value)),\n            Choice::Whole(value) => Ok(Choice::Whole(value.try_clone(alloc)?)),\n", copy)
 
-    def test_a_variants_struct_that_leads_back_doesnt_present_alone(self):
+    def test_a_variants_struct_that_leads_back_isnt_alone(self):
         cycle = "#[cycle(patterns)]\n#[derive(Drop)]\npub"
         source = self.crate(f"/// A.\n{cycle} enum Pat {{\n    Paren(PatParen),\n}}\n\n/// B.\n{cycle} struct PatParen {{\n    pub pat: Box<Pat>,\n}}\n", "abbrev pub syntax_of_Pat : Pat → Syntax\n")
         for files, shared, own in (
@@ -170,7 +170,7 @@ class Kinds(unittest.TestCase):
         self.assertIn("copy_operand", copy.split("\n\n")[1], "and it is imported")
         self.assertNotIn("copy_boxed", copy)
 
-    def test_what_present_after_a_sign_is_in_its_group(self):
+    def test_what_follows_a_sign_is_in_its_group(self):
         source = self.crate()
         view = plain_views(source, set())[self.top / "specs/Plain.antt"]
         self.assertIn("view_Thing a = Node (Both (maybe syntax_of_ident a.ident) (Both (maybe colon_syntax a.colon_token) (group_syntax Paren a.paren_token (list_of syntax_of_Choice comma_syntax a.parts.pairs a.parts.last))))\n", view)
@@ -257,7 +257,7 @@ class Kinds(unittest.TestCase):
         self.assertIn("| `sum` | A sum. | `Sums` of `syn_tree/src/things.rt` |\n", text)
         self.assertIn("| `sums` | What is added. | `Sums` of `syn_tree/src/things.rt` |\n", text)
 
-    def test_a_rule_that_present_in_others_alone_is_read_within_them(self):
+    def test_a_rule_that_is_in_others_alone_is_read_within_them(self):
         table = """--
 -- A thing.
 table thing =
@@ -297,7 +297,7 @@ table entry =
         self.assertIn("| `thing` | A thing. | `thing` of `syn_tree/src/things.rt` |\n", text)
         self.assertIn("| `things` | Things. | `opening` of `syn_tree/src/things.rt` |\n", text)
 
-    def test_a_value_may_present_for_other_syntax_than_itself(self):
+    def test_a_value_may_represent_other_syntax_than_itself(self):
         both = SPECS + "abbrev pub view_Thing : Thing-in.Inside → Syntax\nabbrev pub syntax_of_Thing : Syntax → Syntax\n"
         ending = endings(self.crate(specs=both))[self.top / "src/things.rt"]
         self.assertIn("    ghost view = { view_Thing };\n", ending)
@@ -345,7 +345,7 @@ fn answer_as_1(kind: &str, tokens: &TokenStream) -> Result<Answer, Failure> {
         ):
             self.assertIn(arm, text)
 
-    def test_a_type_settles_its_variant(self):
+    def test_a_type_determines_its_variant(self):
         source = self.crate()
         text = variant_names(source, ["Thing", "Choice"], ["Ident"])
         self.assertIn("impl Named for Thing {}\n", text)

@@ -222,9 +222,9 @@ class Judged(InCrate):
             text = Path(folder, "src/lib.rt").read_text()
             return "\n".join([*(line for there, line in says if there in text), "logic=not-proved"])
 
-        for name, present_in in [("checked", checked), ("has_libraries", lambda crates, end: True)]:
+        for name, replacement in [("checked", checked), ("has_libraries", lambda crates, end: True)]:
             self.addCleanup(setattr, prover, name, getattr(prover, name))
-            setattr(prover, name, present_in)
+            setattr(prover, name, replacement)
         trial, said = MutantTrial(self.crate, [], names=names), io.StringIO()
         with contextlib.redirect_stdout(said):
             trial.run()

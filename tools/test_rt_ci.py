@@ -277,7 +277,7 @@ class Copies(unittest.TestCase):
         self.assertEqual(rt_ci.all_but(["low"], self.top), ("low_tests", "high"))
         self.assertRaises(SystemExit, rt_ci.all_but, ["higher"], self.top)
 
-    def test_no_crate_of_the_product_present_on_one_that_is_left_out(self):
+    def test_no_crate_of_the_product_depends_on_one_that_is_left_out(self):
         for line in (rt_ci.TOP / "crates.txt").read_text().splitlines():
             name, _, below = line.partition(":")
             if name not in rt_ci.BESIDE:

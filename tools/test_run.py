@@ -182,6 +182,14 @@ class Proved(Case):
         self.assertEqual(self.run_with("check", "visibility").stdout, b"proved: check visibility\n")
         self.assertEqual(self.calls(), [])
 
+    def test_a_limit_on_the_size_of_a_file_is_no_signal(self):
+        self.run_with("--prove")
+        written = self.root / "written"
+        command = f"ulimit -f 0; exec {self.root / 'run'} check visibility >{written}"
+        ran = subprocess.run(["bash", "-c", command], input=b"", stderr=subprocess.PIPE, env=self.env)
+        self.assertGreater(ran.returncode, 0)
+        self.assertEqual(written.read_bytes(), b"")
+
     def test_a_program_of_other_sources_is_not_run(self):
         for changed in (self.root / CRATE / "out/syn_canon", self.root / "crates/low/src/lib.rt", self.kit / "KIT-ID"):
             self.build()

@@ -183,9 +183,9 @@ class Program(InCrate):
             both.wait(timeout=30)
             return f"fn {crate.name}::Name::first: no proof: `search` did not prove `returns-clause-value`\nonly=1 proved=0\n"
 
-        for name, present_in in [("checked", checked), ("has_libraries", lambda crates, end: True)]:
+        for name, replacement in [("checked", checked), ("has_libraries", lambda crates, end: True)]:
             self.addCleanup(setattr, prover, name, getattr(prover, name))
-            setattr(prover, name, present_in)
+            setattr(prover, name, replacement)
         with self.program() as (said, ended):
             self.assertEqual((ended, lanes_of), (0, {"low": 2, "high": 2}), said)
         self.assertIn("2 of 2 refused, 0 wrong", said)
@@ -204,9 +204,9 @@ class Program(InCrate):
                 alone.release()
             return f"fn {crate.name}::Name::first: no proof: `search` did not prove `returns-clause-value`\nonly=1 proved=0\n"
 
-        for name, present_in in [("checked", checked), ("has_libraries", lambda crates, end: True)]:
+        for name, replacement in [("checked", checked), ("has_libraries", lambda crates, end: True)]:
             self.addCleanup(setattr, prover, name, getattr(prover, name))
-            setattr(prover, name, present_in)
+            setattr(prover, name, replacement)
         with self.program("--one-by-one") as (said, ended):
             self.assertEqual((ended, tried), (0, [("low", 1, True), ("high", 1, True)]), said)
 

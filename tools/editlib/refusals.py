@@ -73,11 +73,11 @@ def answer_of(said, crate, function_at, changed):
             told = answer.functions.get(f"{crate}::{function_at(goal[1], int(goal[2]) - 1)}", Told())
             told.goals += [goal[3]] * (goal[3] not in told.goals)
         elif error:
-            known_of_error(answer, crate, changed, error)
+            report_of_error(answer, crate, changed, error)
     return answer
 
 
-def known_of_error(answer, crate, changed, error):
+def report_of_error(answer, crate, changed, error):
     path, _, said = error.groups()
     goal = re.match(r"`([^`]+)`: (.*)", said)
     plain = re.sub(r"`[^`]*`", "", goal[2] if goal else said)

@@ -109,7 +109,7 @@ class Progress:
                 continue
             spent = min(task.takes, (now - self.started.get(task.key, now)) * speed)
             rest += task.takes - spent
-            chain = max(chain, task.behind - spent)
+            chain = max(chain, task.following - spent)
         return max(rest / speed, chain / max(1, self.processors / 2))
 
     def speed(self, now):

@@ -113,7 +113,7 @@ class Borders:
                 known.add((rule, mutant.change))
                 listed, told = (rule, mutant.change) in self.equivalent, self.told(mutant)
                 if listed and told:
-                    lines.append(f'`{rule}`: the change "{mutant.change}" is listed as one that alters nothing, but the example `{reported}` detects it')
+                    lines.append(f'`{rule}`: the change "{mutant.change}" is listed as one that alters nothing, but the example `{told}` detects it')
                 elif not listed and not told:
                     bare.append(f'`{rule}`: no example detects the change "{mutant.change}"')
             self.counts[rule] = len(bare)

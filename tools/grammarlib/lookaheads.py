@@ -203,15 +203,15 @@ class Lookaheads:
     def decided(self, look, a, b):
         return (self.must(look, a) and self.must(look, b)) or not (self.may(look, a) or self.may(look, b))
 
-    def agree(self, look, a, b, told):
+    def agree(self, look, a, b, known):
         """The look holds of both or of neither of two lookaheads with these terminals that agree in these facts."""
         if look[0] == 'ahead':
-            return look[1] in told
-        return self.decided(look, a, b) or (look[0] in JOINED and all(self.agree(x, a, b, told) for x in parts(look)))
+            return look[1] in known
+        return self.decided(look, a, b) or (look[0] in JOINED and all(self.agree(x, a, b, known) for x in parts(look)))
 
-    def stays_off(self, look, a, b, told):
+    def stays_off(self, look, a, b, known):
         """Where a lookahead with the first terminal doesn't meet the look, one with the second doesn't either."""
-        return self.must(look, a) or not self.may(look, b) or self.agree(look, a, b, told)
+        return self.must(look, a) or not self.may(look, b) or self.agree(look, a, b, known)
 
     def surely(self, asks, after, look, terminal):
         """A lookahead with this terminal meets the look, where one of the terminals `after` follows it."""

@@ -36,7 +36,7 @@ class Summary:
 
     def prints(self):
         """The terminals that the print may begin with."""
-        return unique(self.stays + [b for a, b, told in self.moves])
+        return unique(self.stays + [b for a, b, known in self.moves])
 
     def beside(self, other):
         """The summary of a union of two forms."""
@@ -69,72 +69,72 @@ class Summaries:
             self.said.update(new)
         self.grown = False
 
-    def of_rule(self, rule, told):
-        self.asked_for.add((rule, told))
-        if (rule, told) not in self.said:
-            self.said[rule, told] = Summary()
+    def of_rule(self, rule, known):
+        self.asked_for.add((rule, known))
+        if (rule, known) not in self.said:
+            self.said[rule, known] = Summary()
             self.grown = True
-        return self.said[rule, told]
+        return self.said[rule, known]
 
-    def heeds(self, told, summary):
+    def heeds(self, known, summary):
         """The facts of what follows a form with this summary are tested."""
-        return (told and summary.nullable) or any(mentions_fact(c) for c in summary.ends + summary.halts + summary.shuns)
+        return (known and summary.nullable) or any(mentions_fact(c) for c in summary.ends + summary.halts + summary.shuns)
 
-    def summary(self, form, told=False):
-        """The summary of a form (`reported`: the facts of its lookahead are tested)."""
+    def summary(self, form, known=False):
+        """The summary of a form (`known`: the facts of its lookahead are tested)."""
         method = self.pair_summary if form[0] == '&' else getattr(self, f'{form[0]}_summary')
-        return method(form, told)
+        return method(form, known)
 
-    def empty_summary(self, form, told):
+    def empty_summary(self, form, known):
         return Summary(nullable=True)
 
     unshown_summary = empty_summary
 
-    def token_summary(self, form, told):
-        facts, terminals = form[1] if told else (), self.lookaheads.terminals(form[2])
+    def token_summary(self, form, known):
+        facts, terminals = form[1] if known else (), self.lookaheads.terminals(form[2])
         kept = {f: all(n in facts for c, n in self.lookaheads.asked(f)) for f in terminals}
         return Summary([f for f in terminals if kept[f]], [(f, f, tuple(facts)) for f in terminals if not kept[f]],
                      ends=[c for f in terminals for c, n in self.lookaheads.asked(f) if n in facts])
 
-    def mark_summary(self, form, told):
-        return self.summary_of_mark(form[1] and told, form[2])
+    def mark_summary(self, form, known):
+        return self.summary_of_mark(form[1] and known, form[2])
 
-    def rest_after_summary(self, form, told):
+    def rest_after_summary(self, form, known):
         summary = self.summary_of_mark(True, form[1])
         summary.ends = [('ended',)]
         return summary
 
-    def lifetime_summary(self, form, told):
+    def lifetime_summary(self, form, known):
         return Summary([('Punctuation', self.lookaheads.lifetime_mark)])
 
-    def when_summary(self, form, told):
-        asked = told or mentions_fact(form[1])
+    def when_summary(self, form, known):
+        asked = known or mentions_fact(form[1])
         return self.choice(form[1], self.summary(form[2], asked), self.summary(form[3], asked))
 
-    def raw_summary(self, form, told):
+    def raw_summary(self, form, known):
         return Summary(group_terminals(form[1]))
 
-    def either_summary(self, form, told):
-        return self.summary(form[1], told).beside(self.summary(form[2], told))
+    def either_summary(self, form, known):
+        return self.summary(form[1], known).beside(self.summary(form[2], known))
 
-    def one_of_summary(self, form, told):
+    def one_of_summary(self, form, known):
         summary = Summary()
         for rule in form[1]:
-            summary = summary.beside(self.of_rule(rule[0], told))
+            summary = summary.beside(self.of_rule(rule[0], known))
         return summary
 
-    def rule_summary(self, form, told):
-        return self.of_rule(form[1][0], told)
+    def rule_summary(self, form, known):
+        return self.of_rule(form[1][0], known)
 
-    def such_summary(self, form, told):
-        return self.summary(form[2], told)
+    def such_summary(self, form, known):
+        return self.summary(form[2], known)
 
     shaped_summary = such_summary
 
-    def captured_summary(self, form, told):
+    def captured_summary(self, form, known):
         return Summary(self.starts.first_set(form[1]))
 
-    def ordered_summary(self, form, told):
+    def ordered_summary(self, form, known):
         summary = self.summary_of_mark(False, '<')
         summary.ends = []
         return summary
@@ -156,9 +156,9 @@ class Summaries:
         still = asking and longer and all(self.lookaheads.deaf(text, c) for c, _ in last)
         return tuple(n for _, n in last) if still else ()
 
-    def pair_summary(self, form, told):
-        first = self.summary(form[1], told)
-        second = self.summary(form[2], self.heeds(told, first))
+    def pair_summary(self, form, known):
+        first = self.summary(form[1], known)
+        second = self.summary(form[2], self.heeds(known, first))
         guarded = self.guards([c for c in self.starts.never_follow([], form[2]) if c in second.halts], first.ends)
         thin = second.nullable or second.gone
         return Summary(
@@ -192,13 +192,13 @@ class Summaries:
                      yes.halts + other.halts + ([look] if other.nullable else []),
                      yes.shuns + other.shuns + ([look] if left else []))
 
-    def vanishing_summary(self, form, told):
+    def vanishing_summary(self, form, known):
         _, never_printed, look, inner = form
-        x = self.choice(look, self.summary(inner, told or mentions_fact(look)), Summary(nullable=True))
+        x = self.choice(look, self.summary(inner, known or mentions_fact(look)), Summary(nullable=True))
         return Summary([] if never_printed else x.stays, [] if never_printed else x.moves, True,
-                     x.stays + [a for a, b, told in x.moves], x.ends, x.halts, x.shuns + [look])
+                     x.stays + [a for a, b, known in x.moves], x.ends, x.halts, x.shuns + [look])
 
-    def inside_summary(self, form, told):
+    def inside_summary(self, form, known):
         looks = [c for c, _ in self.lookaheads.asked_inside(form[1])]
         content, terminals = self.summary(form[2], bool(looks)), group_terminals(form[1])
         if not self.steady(looks, content) or (form[1] == INVISIBLE and not self.lasts(content)):
@@ -207,7 +207,7 @@ class Summaries:
 
     def lasts(self, summary):
         """Where the form reads something, it prints something."""
-        return not summary.gone and ENDED not in summary.prints() + [a for a, b, told in summary.moves]
+        return not summary.gone and ENDED not in summary.prints() + [a for a, b, known in summary.moves]
 
     def steady(self, looks, summary):
         """The looks give the same result for what the form reads and for what it prints."""
@@ -215,20 +215,20 @@ class Summaries:
         return (all(lookaheads.agree(c, *x) for c in looks for x in summary.moves)
                 and not any(lookaheads.may(c, a) for c in looks for a in summary.gone + [ENDED]))
 
-    def generics_before_summary(self, form, told):
+    def generics_before_summary(self, form, known):
         inner = self.summary(form[3])
         first_set = self.lookaheads.mark_first_set('<') + self.starts.first_set(form[3])
         return Summary([], [(a, b, ()) for a in first_set for b in [('Punctuation', '<')] + inner.prints()],
                      ends=inner.ends, halts=inner.halts, shuns=inner.shuns)
 
-    def supplied_summary(self, form, told):
+    def supplied_summary(self, form, known):
         name, inner = self.summary(form[2], True), self.summary(form[3])
         moves = [(a, b, ()) for a in self.lookaheads.terminals(('name',)) for b in self.wild_out(name)]
         return Summary(name.stays, name.moves + moves, ends=inner.ends, halts=inner.halts, shuns=inner.shuns)
 
     def wild_out(self, summary):
         """What a form prints of a supplied `_`."""
-        return ([WILD] if WILD in summary.stays else []) + [b for a, b, told in summary.moves if a == WILD]
+        return ([WILD] if WILD in summary.stays else []) + [b for a, b, known in summary.moves if a == WILD]
 
     def colon_summary(self):
         """The colon after a supplied `_`."""
@@ -236,12 +236,12 @@ class Summaries:
         summary.moves = summary.moves + [(ENDED, self.lookaheads.mark_terminal(':'), ())]
         return summary
 
-    def sure(self, look, after, form, told=False):
+    def sure(self, look, after, form, known=False):
         """Each print of the form, before a lookahead with one of the terminals `after`, meets the look."""
         kind, lookaheads = form[0], self.lookaheads
         if kind == '&':
-            first = self.summary(form[1], told)
-            asked = self.heeds(told, first)
+            first = self.summary(form[1], known)
+            asked = self.heeds(known, first)
             second = self.summary(form[2], asked)
             if form[1][0] == 'token':
                 behind = unique(second.prints() + after)
@@ -249,9 +249,9 @@ class Summaries:
             return all(lookaheads.must(look, f) for f in first.prints()) and (
                 not (first.nullable or first.gone) or self.sure(look, after, form[2], asked))
         if kind == 'when':
-            asked = told or mentions_fact(form[1])
+            asked = known or mentions_fact(form[1])
             return self.sure(look, after, form[2], asked) and self.sure(look, after, form[3], asked)
         if kind == 'either':
-            return self.sure(look, after, form[1], told) and self.sure(look, after, form[2], told)
-        summary = self.summary(form, told)
+            return self.sure(look, after, form[1], known) and self.sure(look, after, form[2], known)
+        summary = self.summary(form, known)
         return all(lookaheads.must(look, f) for f in summary.prints()) and not (summary.nullable or summary.gone)

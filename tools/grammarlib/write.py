@@ -29,7 +29,7 @@ class Files:
         return {
             'specs/Rules.antt': self.rules_file(),
             'specs/RuleNumbers.antt': self.numbers_file(),
-            'specs/IsAlone.antt': self.present_alone_file(),
+            'specs/IsAlone.antt': self.is_alone_file(),
             'specs/Table.antt': self.table_file(),
             'proofs/Said.antt': self.said_file(),
             'proofs/Ranks.antt': self.ranks_file(),
@@ -86,18 +86,18 @@ class Files:
         asks_alike = all(map(same, lookaheads.mark_first_set(mark))) and not any(lookaheads.may(look, ENDED) for look in summary.shuns)
         return rule in self.shown and (asks_alike or self.cut_off(rule))
 
-    def present_before_line(self, rule):
+    def is_before_line(self, rule):
         marks = [self.writer.text(mark) for mark in SEPARATORS if self.is_before(rule, mark)]
         return f'is_before {rule} = {self.writer.list(marks)}'
 
-    def present_alone_file(self):
+    def is_alone_file(self):
         body = '\n'.join([
             self.block('what is shown of its value (all its tokens, in their order) is read as the same value',
                        'abbrev pub reads_shown : Rule → Bool', lambda k: f'reads_shown {k} = {truth(k in self.shown)}'),
             self.block('what is shown of a value that it read before any rest is read as the same value',
                        'abbrev pub is_alone : Rule → Bool', lambda k: f'is_alone {k} = {truth(self.is_alone(k))}'),
             self.block('the same of a value that it read before one of these marks (of `,` and `;`)',
-                       'abbrev pub is_before : Rule → List Text', self.present_before_line),
+                       'abbrev pub is_before : Rule → List Text', self.is_before_line),
         ])
         modules = [('Rattle.std.specs.Prelude', PRELUDE)] + self.specs('Words', 'Rules')
         return self.file('The rules whose shown tokens are read again, and where a value that was read before a rest is read at the end; the proofs compute each line again.', modules, body)

@@ -30,7 +30,10 @@ pub(crate) fn answer<T: Parse + ToTokens + Outlined + TryClone + Compared + Part
 }
 
 /// An error but that of memory is told by its byte and words.
-pub(crate) fn reported(alloc: Global, found: Result<String>) -> std::result::Result<String, Failure> {
+pub(crate) fn reported(
+    alloc: Global,
+    found: Result<String>,
+) -> std::result::Result<String, Failure> {
     let error = match found {
         Ok(text) => return Ok(text),
         Err(error) => error,

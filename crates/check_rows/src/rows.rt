@@ -116,8 +116,8 @@ fn check_as(
     count.rows = count.rows.saturating_add(1);
     if !is_right(heading, found.as_str(), row.want) {
         count.wrong = count.wrong.saturating_add(1);
-        settle(said, kind, row, heading.verdict)?;
-        settle_answers(said, found.as_str(), heading.verdict.unwrap_or(row.want))?;
+        note(said, kind, row, heading.verdict)?;
+        note_answers(said, found.as_str(), heading.verdict.unwrap_or(row.want))?;
     }
     Ok(())
 }
@@ -158,7 +158,7 @@ fn is_start(start: &str, words: &str, want: &str) -> bool {
 }
 
 /// Adds what says which row is wrong: its text, or its two texts.
-fn settle(
+fn note(
     said: &mut String,
     kind: &str,
     row: &Row<'_>,
@@ -173,7 +173,7 @@ fn settle(
 }
 
 /// Adds what was found, and what it should be.
-fn settle_answers(said: &mut String, found: &str, want: &str) -> Result<(), AllocError> {
+fn note_answers(said: &mut String, found: &str, want: &str) -> Result<(), AllocError> {
     writeln!(said, ": {found:?}, not {want:?}")
 }
 

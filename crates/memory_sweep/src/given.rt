@@ -59,7 +59,7 @@ impl<T: Parse + ToTokens + Named + Drop> Given<T> {
 }
 
 /// What a tree prints.
-fn printed<T: ToTokens>(alloc: Global, tree: &T) -> Result<TokenStream> {
+pub(crate) fn printed<T: ToTokens>(alloc: Global, tree: &T) -> Result<TokenStream> {
     let mut tokens = TokenStream::new(alloc);
     tree.to_tokens(&mut tokens)?;
     Ok(tokens)

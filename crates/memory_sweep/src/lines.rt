@@ -3,6 +3,7 @@
 use crate::by_kind::sweep_as;
 use crate::failure::Failure;
 use crate::given::Input;
+use crate::opened::sweep_opened;
 use crate::sweep::{as_piece, sweep};
 use crate::tally::Tally;
 use crate::texts::{GivenText, ReadTokens, TokenText};
@@ -17,7 +18,7 @@ pub(crate) fn sweep_lines(alloc: Global, source: &str, tally: &mut Tally) -> Res
         tally.begin_line();
         match sweep_line(alloc, line, tally) {
             Ok(()) => {}
-            Err(Failure::Broken) => tally.settle_broken()?,
+            Err(Failure::Broken) => tally.report_broken()?,
             Err(failure) => return Err(failure),
         }
     }
@@ -35,6 +36,7 @@ fn sweep_line(alloc: Global, line: &str, tally: &mut Tally) -> Result<(), Failur
         tokens: &tokens,
     };
     sweep_as(word, &input, tally)?;
+    sweep_opened(word, &input, tally)?;
     if word == "Item" {
         as_piece(&input, tally)?;
     }

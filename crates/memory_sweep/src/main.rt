@@ -4,7 +4,8 @@
 //! Each line of standard input is the name of a type, behind which may stand `::` and the name of the variant that is to be read, and
 //! behind a space the text; a text in `<< >>` stands in a group without delimiters. On each these calls are made: `read_tokens`,
 //! `token_text`, `parse2`, `T::parse` on a buffer from which one token was read, `to_tokens` on a stream that holds tokens, `try_clone`;
-//! where the type has a canonical print `canonical` and `same_form`; and `join_items` of that one piece where it is an `Item`.
+//! where the type has a canonical print `canonical` and `same_form`; where it may be deferred `open`; and `join_items` of that one piece where
+//! it is an `Item`.
 //!
 //! A run that is refused a request has to answer that memory is refused, and nothing else; the buffer then stands where it stood, and
 //! the stream is as it was, spans included. The run that is refused none has to answer the right thing. A call may also ask again for
@@ -28,6 +29,7 @@ mod given;
 mod heap;
 mod lines;
 mod named;
+mod opened;
 mod sweep;
 mod tally;
 mod texts;

@@ -109,7 +109,7 @@ impl Tally {
     }
 
     /// Tells of a line whose text isn't read as the type that it names.
-    pub(crate) fn settle_broken(&mut self) -> Result<(), Failure> {
+    pub(crate) fn report_broken(&mut self) -> Result<(), Failure> {
         let line = self.line;
         add_one(&mut self.all.wrong);
         writeln!(self.said, "wrong {line} input: not read as what it names")?;

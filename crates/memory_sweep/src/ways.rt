@@ -2,6 +2,7 @@
 
 use std::alloc::Global;
 use syn::canon::{NamedField, SafeOrUnsafe, Stmts, UnnamedField, UnsafeOnly};
+use syn::item::Items;
 use syn::{Result, TryClone};
 
 /// How a `T` is copied and compared.
@@ -54,6 +55,16 @@ impl Ways<Stmts> for InField {
     }
 
     fn is_equal(left: &Stmts, right: &Stmts) -> bool {
+        left.0 == right.0
+    }
+}
+
+impl Ways<Items> for InField {
+    fn copy(tree: &Items, alloc: Global) -> Result<Items> {
+        Ok(Items(tree.0.try_clone(alloc)?))
+    }
+
+    fn is_equal(left: &Items, right: &Items) -> bool {
         left.0 == right.0
     }
 }

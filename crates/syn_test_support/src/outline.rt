@@ -1,6 +1,7 @@
 //! Texts that show trees whole: each token with its spans, each part that is there.
 
 mod exprs;
+mod generics;
 mod items;
 mod kinds;
 mod members;
@@ -8,6 +9,7 @@ mod ops;
 mod parts;
 mod pats;
 mod sigs;
+mod types;
 mod uses;
 
 use std::alloc::{AllocError, Global};
@@ -17,11 +19,7 @@ use syn::data::{Field, Fields, FieldsNamed, FieldsUnnamed, Variant};
 use syn::deferred::{Deferred, DeferredExpr};
 use syn::derive::{Data, DataEnum, DataStruct, DataUnion, DeriveInput};
 use syn::item::{ItemEnum, ItemStruct, ItemUnion};
-use syn::lower::{
-    AttrStyle, Attribute, BoundLifetimes, GenericParam, Generics, LifetimeParam, Lit,
-    MacroDelimiter, Meta, MetaList, MetaNameValue, Path, PathArguments, PathSegment, ReturnType,
-    TraitBound, TraitBoundModifier, Type, TypeParamBound, TypePath, WhereClause, WherePredicate,
-};
+use syn::lower::{AttrStyle, Attribute, Lit, MacroDelimiter, Meta, MetaList, MetaNameValue};
 use syn::punctuated::Punctuated;
 use syn::restriction::{VisRestricted, Visibility};
 use syn::token::{Comma, Eq, Ident, Mark, Span, TokenStream};
@@ -166,84 +164,6 @@ impl<T: Outlined> Outlined for Option<T> {
 impl Outlined for Ident {
     fn show(&self, out: &mut TreeText) {
         out.token(self.text(), self.span);
-    }
-}
-
-impl Outlined for PathArguments {
-    fn show(&self, out: &mut TreeText) {
-        match self {
-            PathArguments::None => {}
-            _ => out.printed("Arguments", self),
-        }
-    }
-}
-
-impl Outlined for PathSegment {
-    fn show(&self, out: &mut TreeText) {
-        self.ident.show(out);
-        self.arguments.show(out);
-    }
-}
-
-impl Outlined for Path {
-    fn show(&self, out: &mut TreeText) {
-        out.word("Path");
-        if let Some(leading_colon) = &self.leading_colon {
-            out.mark("::", leading_colon);
-        }
-        for (segment, separator) in self.segments.pairs() {
-            segment.show(out);
-            out.mark("::", separator);
-        }
-        if let Some(segment) = self.segments.trailing_value() {
-            segment.show(out);
-        }
-    }
-}
-
-impl Outlined for TypePath {
-    fn show(&self, out: &mut TreeText) {
-        match &self.qself {
-            Some(_) => out.printed("Qualified", self),
-            None => self.path.show(out),
-        }
-    }
-}
-
-/// What a type is called.
-fn kind_of(ty: &Type) -> &'static str {
-    match ty {
-        Type::Array(_) => "Array",
-        Type::Group(_) => "Group",
-        Type::Never(_) => "Never",
-        Type::Paren(_) => "Paren",
-        Type::Path(_) => "Path",
-        Type::Ptr(_) => "Ptr",
-        Type::Reference(_) => "Reference",
-        Type::Slice(_) => "Slice",
-        Type::Tuple(_) => "Tuple",
-        Type::Verbatim(_) => "Verbatim",
-    }
-}
-
-/// Types that are no path are shown by what they print.
-impl Outlined for Type {
-    fn show(&self, out: &mut TreeText) {
-        out.word("Type");
-        match self {
-            Type::Path(ty) => ty.show(out),
-            Type::Verbatim(tokens) => {
-                out.word("Verbatim");
-                tokens.show(out);
-            }
-            _ => out.printed(kind_of(self), self),
-        }
-    }
-}
-
-impl Outlined for ReturnType {
-    fn show(&self, out: &mut TreeText) {
-        out.printed("ReturnType", self);
     }
 }
 
@@ -405,82 +325,6 @@ impl Outlined for Fields {
                 fields.show(out);
             }
             Fields::Unit => out.word("Unit"),
-        }
-    }
-}
-
-/// A parameter is shown by what it prints.
-impl Outlined for GenericParam {
-    fn show(&self, out: &mut TreeText) {
-        match self {
-            GenericParam::Lifetime(_) => out.printed("LifetimeParam", self),
-            GenericParam::Ty(_) => out.printed("TypeParam", self),
-            GenericParam::Const(_) => out.printed("ConstParam", self),
-        }
-    }
-}
-
-/// And so is a predicate.
-impl Outlined for WherePredicate {
-    fn show(&self, out: &mut TreeText) {
-        match self {
-            WherePredicate::Lifetime(_) => out.printed("PredicateLifetime", self),
-            WherePredicate::Ty(_) => out.printed("PredicateType", self),
-        }
-    }
-}
-
-/// And so are parts of both.
-impl Outlined for LifetimeParam {
-    fn show(&self, out: &mut TreeText) {
-        out.printed("LifetimeParam", self);
-    }
-}
-
-impl Outlined for TypeParamBound {
-    fn show(&self, out: &mut TreeText) {
-        out.printed("TypeParamBound", self);
-    }
-}
-
-impl Outlined for TraitBound {
-    fn show(&self, out: &mut TreeText) {
-        out.printed("TraitBound", self);
-    }
-}
-
-impl Outlined for TraitBoundModifier {
-    fn show(&self, out: &mut TreeText) {
-        out.printed("TraitBoundModifier", self);
-    }
-}
-
-impl Outlined for BoundLifetimes {
-    fn show(&self, out: &mut TreeText) {
-        out.printed("BoundLifetimes", self);
-    }
-}
-
-impl Outlined for WhereClause {
-    fn show(&self, out: &mut TreeText) {
-        out.token("where", self.where_token.span);
-        out.list(&self.predicates);
-    }
-}
-
-/// Parameters are shown in the order in which the tree holds them.
-impl Outlined for Generics {
-    fn show(&self, out: &mut TreeText) {
-        if let Some(lt_token) = &self.lt_token {
-            out.mark("<", lt_token);
-        }
-        out.list(&self.params);
-        if let Some(gt_token) = &self.gt_token {
-            out.mark(">", gt_token);
-        }
-        match &self.where_clause {
-            Some(clause) => clause.show(out),
-            None => {}
         }
     }
 }

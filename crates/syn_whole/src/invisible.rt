@@ -3,7 +3,7 @@ ghost use Rattle.std.specs.Prelude.{◌≡◌};
 ghost use Rattle.syn_tokens.specs.Entries.{encode};
 ghost use Rattle.syn_whole.specs.HiddenGroups.{invisible_in};
 
-use crate::invisible::choice::{is_read, looked_through_at, refused_at};
+use crate::invisible::choice::{Usage, looked_through_at, refused_at, usage_of};
 use crate::invisible::opening::{Opening, is_invisible};
 use crate::invisible::rebuilt::opened;
 use syn_parse::parse::{Parse, parse_whole};
@@ -45,7 +45,7 @@ pub(crate) fn parse_opened<T: Parse + Drop>(tokens: &TokenStream) -> Result<T> {
     parse_whole(&opened(&opening)?)
 }
 
-/// Opens the groups at which the parser of a `T` fails.
+/// Opens the groups at which the parser of a `T` fails, and traits of impls that it reaches only then.
 fn open_where_refused<T: Parse + Drop>(opening: &mut Opening<'_>) -> Result<()> {
     for _parse in 0..MOST {
         let Some(place) = refused_at::<T>(opening)? else {
@@ -57,20 +57,24 @@ fn open_where_refused<T: Parse + Drop>(opening: &mut Opening<'_>) -> Result<()> 
             };
             opening.open_run(group);
         }
+        let _found = open_traits::<T>(opening)?;
     }
     Ok(())
 }
 
-/// Opens the groups around the traits of impls, since an impl is parsed by what the group of its first type contains. Returns
-/// whether there was such a group.
+/// Opens the groups around the traits of impls, since an impl is parsed by what the group of its first type contains. Stops at the
+/// first one that the parser doesn't reach, since it fails at a group before it. Returns whether a group was opened.
 fn open_traits<T: Parse + Drop>(opening: &mut Opening<'_>) -> Result<bool> {
-    let (mut left, mut found) = (MOST, false);
+    let mut found = false;
     for group in 0..opening.len() {
-        if left > 0 && opening.is_trait(group) {
-            left = left.saturating_sub(1);
-            if is_read::<T>(opening, group)? {
-                opening.open_run(group);
-                found = true;
+        if opening.is_trait(group) {
+            match usage_of::<T>(opening, group)? {
+                Usage::Parsed => {
+                    opening.open_run(group);
+                    found = true;
+                }
+                Usage::Stored => opening.mark_stored(group),
+                Usage::Unreached => return Ok(found),
             }
         }
     }

@@ -11,8 +11,8 @@ use syn_tokens::stream::TokenStream;
 /// tokens remain after a `T`, with `unexpected token` at the first of them; and if memory is refused.
 ///
 /// An invisible group is parsed as an operand or a type, or as an absent visibility if it is empty. If that fails, the stream
-/// is parsed again with the contents of groups in place of the groups, at most 256 times. What is stored verbatim keeps its
-/// groups.
+/// is parsed again with the contents of groups in place of the groups, at most 256 times, and once for each impl whose trait may be
+/// in a group. What is stored verbatim keeps its groups, except those that were opened to parse it.
 pub fn parse2<T: Parse + Drop>(tokens: TokenStream) -> Result<T>
     ensures { WholeOutcome IsSyntaxError T.syntax T.form tokens result }
 {

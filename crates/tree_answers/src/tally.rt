@@ -99,12 +99,12 @@ impl Tally {
             self.counts.count(question, by_tree);
         } else {
             add_one(&mut self.counts.differ);
-            self.settle(case, kind, question, by_tree, by_rule)?;
+            self.note(case, kind, question, by_tree, by_rule)?;
         }
         Ok(())
     }
 
-    fn settle(
+    fn note(
         &mut self,
         case: &Case<'_>,
         kind: &Kind,

@@ -1,5 +1,6 @@
 //! What patterns, expressions, statements and items are made of, and macros.
 
+use super::types::show_qualified;
 use crate::outline::{Outlined, TreeText};
 use syn::expr::Label;
 use syn::lower::{
@@ -15,21 +16,10 @@ pub(super) fn node(word: &str, attrs: &Vec<Attribute>, out: &mut TreeText) {
     out.word(word);
 }
 
-/// Adds what shows a path, with the type before it where there is one: how many of its words stand in the `< >` behind that, and
-/// `as` if it is there.
+/// Adds what shows a path, with the type before it if there is one: how many of its words are inside the `< >` of that, and `as` if it is
+/// there.
 pub(super) fn show_path(qself: &Option<QSelf>, path: &Path, out: &mut TreeText) {
-    if let Some(qself) = qself {
-        out.word("Qualified");
-        out.mark("<", &qself.lt_token);
-        show_type(&qself.ty, out);
-        if let Some(as_token) = &qself.as_token {
-            out.token("as", as_token.span);
-        }
-        let added = write!(out.text, " {}", qself.position);
-        out.note(added);
-        out.mark(">", &qself.gt_token);
-    }
-    path.show(out);
+    show_qualified(qself, path, out);
 }
 
 /// Adds what shows a type.
@@ -38,7 +28,7 @@ pub(super) fn show_type(ty: &Type, out: &mut TreeText) {
 }
 
 /// Adds what shows a lifetime.
-fn show_lifetime(lifetime: &Lifetime, out: &mut TreeText) {
+pub(super) fn show_lifetime(lifetime: &Lifetime, out: &mut TreeText) {
     out.token("'", lifetime.apostrophe);
     lifetime.ident.show(out);
 }
@@ -119,13 +109,13 @@ pub(super) fn show_semi(semi: &Option<Semi>, out: &mut TreeText) {
     }
 }
 
-/// Adds generic arguments, if there are any, by what they print.
+/// Adds generic arguments, if there are any.
 pub(super) fn show_arguments(
     arguments: &Option<AngleBracketedGenericArguments>,
     out: &mut TreeText,
 ) {
     match arguments {
-        Some(arguments) => out.printed("Arguments", arguments),
+        Some(arguments) => arguments.show(out),
         None => {}
     }
 }

@@ -2,6 +2,7 @@
 use crate::tests::asserts::value;
 use std::alloc::Global;
 use std::process::Abort;
+use syn::canon::Stmts;
 use syn::parse::{Parse, parse2};
 use syn::print::ToTokens;
 use syn::reader::read_tokens;
@@ -12,7 +13,7 @@ use syn::{
 use syn_test_support::printed;
 
 /// The stream of these words: `<` and `>` are the delimiters of an invisible group.
-fn stream(alloc: Global, words: &str) -> Result<TokenStream> {
+pub fn stream(alloc: Global, words: &str) -> Result<TokenStream> {
     let mut out = StreamBuilder::new(alloc);
     for word in words.split(' ') {
         add_word(alloc, word, &mut out)?;
@@ -27,6 +28,8 @@ fn add_word(alloc: Global, word: &str, out: &mut StreamBuilder) -> Result<()> {
         ">" => out.close(Delimiter::None, span)?,
         "(" => out.open(Delimiter::Paren, span)?,
         ")" => out.close(Delimiter::Paren, span)?,
+        "[" => out.open(Delimiter::Bracket, span)?,
+        "]" => out.close(Delimiter::Bracket, span)?,
         "{" => out.open(Delimiter::Brace, span)?,
         "}" => out.close(Delimiter::Brace, span)?,
         _ => out.append(&read_tokens(alloc, word)?)?,
@@ -35,7 +38,7 @@ fn add_word(alloc: Global, word: &str, out: &mut StreamBuilder) -> Result<()> {
 }
 
 /// What these words are parsed as.
-fn tree<T: Parse + Drop>(rt: &impl Abort, alloc: Global, words: &str) -> T {
+pub fn tree<T: Parse + Drop>(rt: &impl Abort, alloc: Global, words: &str) -> T {
     let tokens = value(rt, stream(alloc, words));
     value(rt, parse2(tokens))
 }
@@ -128,6 +131,18 @@ fn an_operand_in_a_group(rt: HostRuntime) {
     let product: Expr = tree(&rt, rt.alloc(), "< 1 + 2 > * 3");
     assert!(rt; has_group_on_the_left(&product));
     assert_prints::<Expr>(&rt, rt.alloc(), "< 1 + 2 > * 3", "1 + 2 * 3");
+}
+
+/// As a statement too.
+#[test]
+fn an_operand_in_a_group_as_a_statement(rt: HostRuntime) {
+    let Stmts(statements) = tree(&rt, rt.alloc(), "< 1 + 2 > * 3");
+    assert_eq!(rt; statements.len(), 1);
+    match &statements[0] {
+        Stmt::Expr(product, None) => assert!(rt; has_group_on_the_left(product)),
+        _ => assert!(rt; false, "an expression"),
+    }
+    assert_prints::<Stmts>(&rt, rt.alloc(), "< 1 + 2 > * 3", "1 + 2 * 3");
 }
 
 fn has_group_on_the_left(expr: &Expr) -> bool {

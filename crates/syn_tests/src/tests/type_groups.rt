@@ -36,7 +36,7 @@ const GROUPS: &[(&str, &str)] = &[
     ("T", "Type Path T@0..1"),
     (
         "&'a [A<B>]",
-        "Type Reference &@0..1 '+@1..2 a@2..3 [@4..5 A@5..6 <@6..7 B@7..8 >@8..9 ]@9..10",
+        "Type Reference &@0..1 '@1..2 a@2..3 Type Slice [@4..5 Type Path A@5..6 Arguments <@6..7 Type Path B@7..8 >@8..9 ]@9..10",
     ),
 ];
 

@@ -90,7 +90,7 @@ fn is_copied(stream: &TokenStream, start: usize) -> bool {
 /// All of the sample is there from each of these bytes on, near ones and far ones; it is the same as the one from 0 on; and
 /// what it lends, and what can be had of it in memory of its own, is the same.
 #[test]
-fn wherever_they_present(rt: HostRuntime) {
+fn wherever_they_are(rt: HostRuntime) {
     let near = stream(&rt, rt.alloc(), SAMPLE);
     for start in [0, 1, 1000, FAR - 8, FAR - 4, FAR - 1, FAR, usize::MAX - 7] {
         let stream = sample(rt.alloc(), start).expect(&rt, "a stream");

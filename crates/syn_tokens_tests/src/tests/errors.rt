@@ -1,5 +1,5 @@
 //! Errors and refusals.
-use crate::tests::support::{at, refused, settles};
+use crate::tests::support::{at, refused, reports};
 use std::alloc::{AllocError, Global};
 use syn_parse::read::refusal::{Parsed, Refusal};
 use syn_parse::read::{End, Peek};
@@ -20,7 +20,7 @@ fn says(error: &Error, alloc: Global, want: &str) -> bool {
 #[test]
 fn single(rt: HostRuntime) {
     let error = Error::new(Span { start: 2, end: 5 }, "expected identifier");
-    assert!(rt; settles(&error, 2, "expected identifier") && !error.is_memory());
+    assert!(rt; reports(&error, 2, "expected identifier") && !error.is_memory());
     assert!(rt; error.span() == Span { start: 2, end: 5 });
     assert!(rt; says(&error, rt.alloc(), "expected identifier"));
 }

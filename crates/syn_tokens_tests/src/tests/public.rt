@@ -1,5 +1,5 @@
 //! What callers ask of buffers, and of whole streams.
-use crate::tests::support::{assert_parsed, at, refused, stream, settles, tokens};
+use crate::tests::support::{assert_parsed, at, refused, reports, stream, tokens};
 use std::alloc::Global;
 use syn_parse::buffer::ParseBuffer;
 use syn_parse::ext::IdentExt;
@@ -56,7 +56,7 @@ fn is_content_parsed(content: &mut ParseBuffer<'_>) -> bool {
     refused(&content.finish(), 1, "unexpected token")
         && is_name(content.parse(), "a")
         && content.finish().is_ok()
-        && settles(&content.error("no more"), 2, "no more")
+        && reports(&content.error("no more"), 2, "no more")
 }
 
 #[test]
@@ -125,9 +125,9 @@ fn looked_for(rt: HostRuntime) {
 /// Whether nothing that was looked for is reported with this text there, and `type`, looked for, as missing there.
 fn settles_next(input: &ParseBuffer<'_>, start: usize, text: &str) -> bool {
     let mut lookahead = input.lookahead1();
-    settles(&input.lookahead1().error(), start, text)
+    reports(&input.lookahead1().error(), start, text)
         && !lookahead.peek::<Type>()
-        && settles(&lookahead.error(), start, "expected `type`")
+        && reports(&lookahead.error(), start, "expected `type`")
 }
 
 /// That is so before a token, and at the end after it.
@@ -233,13 +233,13 @@ fn any_identifiers(rt: HostRuntime) {
 fn is_looked_for(input: &ParseBuffer<'_>, start: usize) -> bool {
     let mut lookahead = input.lookahead1();
     let seen = lookahead.peek::<Ident>();
-    !seen && settles(&lookahead.error(), start, "expected identifier")
+    !seen && reports(&lookahead.error(), start, "expected identifier")
 }
 
 /// Whether the buffer is at the end of a group whose closing delimiter is at 2: each refusal is at that place.
 fn is_at_close(input: &mut ParseBuffer<'_>) -> bool {
     input.span() == at(2)
-        && settles(&input.error("no"), 2, "no")
+        && reports(&input.error("no"), 2, "no")
         && is_looked_for(input, 2)
         && refused(&input.parse::<Struct>(), 2, "expected `struct`")
         && refused(&input.parenthesized(), 2, "expected parentheses")

@@ -113,7 +113,7 @@ pub fn shown(alloc: Global, stream: &TokenStream) -> Result<String> {
 }
 
 /// Whether the error has just this fault, from this byte on.
-pub fn settles(error: &Error, start: usize, text: &str) -> bool {
+pub fn reports(error: &Error, start: usize, text: &str) -> bool {
     match error.faults() {
         [fault] => fault.span.start == start && fault.text == text,
         _ => false,
@@ -124,7 +124,7 @@ pub fn settles(error: &Error, start: usize, text: &str) -> bool {
 pub fn refused<T>(answer: &Result<T>, start: usize, text: &str) -> bool {
     match answer {
         Ok(_) => false,
-        Err(error) => settles(error, start, text),
+        Err(error) => reports(error, start, text),
     }
 }
 
@@ -170,7 +170,7 @@ pub fn assert_parsed<T: Peek + Parse + ToTokens + Drop>(
 fn is_refused_at<T>(answer: &Result<T>, span: Span, text: &str) -> bool {
     match answer {
         Ok(_) => false,
-        Err(error) => error.span() == span && settles(error, span.start, text),
+        Err(error) => error.span() == span && reports(error, span.start, text),
     }
 }
 

@@ -77,7 +77,10 @@ fn marks(rt: HostRuntime) {
     let nowhere = Comma::default();
     let copy = TryClone::try_clone(&mark, rt.alloc()).expect(&rt, "a copy");
     assert!(rt; copy.spans[0] == HERE);
-    assert!(rt; mark.is_same(&Mark::new([FOLLOWING])), "wherever they stand");
+    assert!(rt;
+        mark.is_same(&Mark::new([FOLLOWING])),
+        "wherever they stand"
+    );
     assert!(rt;
         nowhere.spans[0] == Span::call_site() && mark == nowhere,
         "wherever they stand"

@@ -27,6 +27,9 @@ const OPERANDS: &[&str] = &[
     "true", "false", "if", "loop", "while", "for", "unsafe", "return", "break", "continue", "let",
 ];
 
+/// The words before the keyword of an item.
+const MODIFIERS: &[&str] = &["default", "const", "async", "unsafe", "extern", "auto"];
+
 /// What the token at this index may start.
 pub(crate) fn beginning_of(opening: &Opening<'_>, place: usize) -> Beginning {
     if is_word(opening, place, "let") {
@@ -221,6 +224,11 @@ fn is_one_of(opening: &Opening<'_>, place: usize, characters: &[char]) -> bool {
 /// Whether the word is allowed in a path.
 fn is_path_word(ident: &IdentRef<'_>) -> bool {
     !ident.is_keyword() || is_among(ident, PATHS)
+}
+
+/// Whether the word may be before the keyword of an item.
+pub(crate) fn is_modifier(ident: &IdentRef<'_>) -> bool {
+    is_among(ident, MODIFIERS)
 }
 
 fn is_among(ident: &IdentRef<'_>, words: &[&str]) -> bool {

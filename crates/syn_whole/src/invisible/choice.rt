@@ -8,6 +8,17 @@ use syn_parse::parse::{Parse, parse_whole};
 use syn_tokens::error::Result;
 use syn_tokens::stream::TokenStream;
 
+/// How the parser uses the tokens of a group.
+#[derive(Clone, Copy)]
+pub(crate) enum Usage {
+    /// It parses them.
+    Parsed,
+    /// It stores them verbatim.
+    Stored,
+    /// It fails before them.
+    Unreached,
+}
+
 /// How the parser uses a group at its position.
 enum Position {
     Operand,
@@ -36,8 +47,9 @@ fn refusal<T: Parse + Drop>(numbered: TokenStream) -> Result<Option<usize>> {
     }
 }
 
-/// The group to open if the parser fails at a token: one that starts there; one right before it that was taken for an empty
-/// visibility; one right before it or around it that is not an operand or a type; or one right after it, inside a mark.
+/// The group to open if the parser fails at a token: one that starts there; one right before it, or before the modifiers before it,
+/// that was taken for an empty visibility; one right before it or around it that is not an operand or a type; or one right after
+/// it, inside a mark.
 pub(crate) fn looked_through_at<T: Parse + Drop>(
     opening: &Opening<'_>,
     place: usize,
@@ -46,6 +58,11 @@ pub(crate) fn looked_through_at<T: Parse + Drop>(
         return Ok(Some(place));
     }
     if let Some(group) = opening.group_before(place) {
+        if is_looked_through::<T>(opening, group)? {
+            return Ok(Some(group));
+        }
+    }
+    if let Some(group) = opening.empty_before_modifiers(place) {
         if is_looked_through::<T>(opening, group)? {
             return Ok(Some(group));
         }
@@ -116,9 +133,14 @@ fn position_of<T: Parse + Drop>(opening: &Opening<'_>, group: usize) -> Result<P
     }
 }
 
-/// Whether the tokens in place of the group are parsed, and not stored verbatim.
-pub(crate) fn is_read<T: Parse + Drop>(opening: &Opening<'_>, group: usize) -> Result<bool> {
-    Ok(!passes::<T>(opening, group, Probe::Mark)?)
+/// How the parser uses the tokens in place of the group.
+pub(crate) fn usage_of<T: Parse + Drop>(opening: &Opening<'_>, group: usize) -> Result<Usage> {
+    let usage = match refusal::<T>(numbered(opening, Some((group, Probe::Mark)))?)? {
+        Some(place) if place < group => Usage::Unreached,
+        Some(place) if place == group => Usage::Parsed,
+        _ => Usage::Stored,
+    };
+    Ok(usage)
 }
 
 /// Whether the parser doesn't fail at a probe in place of the group.

@@ -3,7 +3,7 @@ ghost use Rattle.std.specs.Prelude.{◌≡◌};
 ghost use Rattle.syn_whole.specs.HiddenGroups.{is_hidden, is_invisible};
 
 use crate::invisible::beginnings::{
-    Beginning, beginning_of, begins_parameters, is_mark, is_restriction, is_word,
+    Beginning, beginning_of, begins_parameters, is_mark, is_modifier, is_restriction, is_word,
 };
 use std::alloc::Global;
 use syn_tokens::delimiter::Delimiter;
@@ -17,7 +17,12 @@ use syn_tokens::stream::entry::{Entry, Token};
 pub(crate) struct Opening<'t> {
     tokens: &'t TokenStream,
     opened: Vec<bool>,
+    /// Which groups are known to be stored verbatim, by where they start.
+    stored: Vec<bool>,
 }
+
+/// The most words and literals before the keyword of an item, as in `default const unsafe extern "C" fn`.
+const MODIFIERS: usize = 5;
 
 /// Whether the entry is the opening delimiter of an invisible group.
 pub(crate) fn is_invisible(entry: &Entry) -> bool
@@ -44,14 +49,23 @@ fn is_hidden(delimiter: Delimiter) -> bool
     }
 }
 
+/// A mark for each entry of the stream, not set.
+fn none_of(tokens: &TokenStream) -> Result<Vec<bool>> {
+    let mut marks = Vec::with_capacity(tokens.alloc(), tokens.entries().len())?;
+    for _entry in tokens.entries() {
+        marks.push(false)?;
+    }
+    Ok(marks)
+}
+
 impl<'t> Opening<'t> {
     /// Starts with no group opened.
     pub(crate) fn new(tokens: &'t TokenStream) -> Result<Opening<'t>> {
-        let mut opened = Vec::with_capacity(tokens.alloc(), tokens.entries().len())?;
-        for _entry in tokens.entries() {
-            opened.push(false)?;
-        }
-        Ok(Opening { tokens, opened })
+        Ok(Opening {
+            tokens,
+            opened: none_of(tokens)?,
+            stored: none_of(tokens)?,
+        })
     }
 
     pub(crate) fn alloc(&self) -> Global {
@@ -213,10 +227,28 @@ impl<'t> Opening<'t> {
         found
     }
 
+    /// Marks the group that starts at this place as stored verbatim.
+    pub(crate) fn mark_stored(&mut self, group: usize) {
+        if let Some(mark) = self.stored.get_mut(group) {
+            *mark = true;
+        }
+    }
+
+    /// Whether the group that starts at this place is known to be stored verbatim.
+    fn is_stored(&self, group: usize) -> bool {
+        match self.stored.get(group) {
+            Some(mark) => *mark,
+            None => false,
+        }
+    }
+
     /// Whether a group starts at this place that is in the position of an impl's trait: after `impl`, generics, `const` or `!`,
-    /// and before `for`.
+    /// and before `for`; and isn't known to be stored verbatim.
     pub(crate) fn is_trait(&self, group: usize) -> bool {
-        self.begins_group(group) && self.is_before_trait(group) && self.is_before_for(group)
+        self.begins_group(group)
+            && !self.is_stored(group)
+            && self.is_before_trait(group)
+            && self.is_before_for(group)
     }
 
     fn is_before_trait(&self, group: usize) -> bool {
@@ -249,6 +281,34 @@ impl<'t> Opening<'t> {
         match self.before(less) {
             Some(word) => is_mark(self, less, '<') && is_word(self, word, "impl"),
             None => false,
+        }
+    }
+
+    /// The empty group before the modifiers of an item that are right before this place, as before `unsafe` in `unsafe impl`.
+    pub(crate) fn empty_before_modifiers(&self, place: usize) -> Option<usize> {
+        let mut first = place;
+        for _modifier in 0..MODIFIERS {
+            let Some(before) = self.before(first) else {
+                return None;
+            };
+            if self.is_modifier(before) {
+                first = before;
+            }
+        }
+        let group = self.group_before(first)?;
+        if first < place && self.seen_from(group.saturating_add(1)) == first {
+            Some(group)
+        } else {
+            None
+        }
+    }
+
+    /// Whether the token may be before the keyword of an item.
+    fn is_modifier(&self, place: usize) -> bool {
+        match &self.token(place) {
+            Some(Token::Ident(ident)) => is_modifier(ident),
+            Some(Token::Literal(_)) => true,
+            _ => false,
         }
     }
 
