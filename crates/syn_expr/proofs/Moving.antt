@@ -21,6 +21,7 @@ not_moved a (Shaped (expr Cast) (Both (Node (Right (Unshown Nothing))) (Both l p
 not_moved a s h = refl
 
 pub not_down : (s : Syntax) → is_bare s ≡ false → spine_shown s ≡ own_shown s
+unfolding own_shown spine_shown
 not_down (Shaped (expr Binary) (Both (Node (Right (Unshown Nothing))) (Both l p))) h = absurd (true≢false h)
 not_down (Shaped (expr Assign) (Both (Node (Right (Unshown Nothing))) (Both l p))) h = absurd (true≢false h)
 not_down (Shaped (expr Cast) (Both (Node (Right (Unshown Nothing))) (Both l p))) h = absurd (true≢false h)
@@ -46,12 +47,14 @@ moved_left a (Shaped (expr Cast) (Both b (Both l p))) h = rw (none_is b h) refl
 moved_left a s h = absurd (true≢false (sym h))
 
 shown_left : (s : Syntax) → is_bare s ≡ true → spine_shown s ≡ spine_shown (left_of s)
+unfolding own_shown spine_shown
 shown_left (Shaped (expr Binary) (Both b (Both l p))) h = rw (none_is b h) refl
 shown_left (Shaped (expr Assign) (Both b (Both l p))) h = rw (none_is b h) refl
 shown_left (Shaped (expr Cast) (Both b (Both l p))) h = rw (none_is b h) refl
 shown_left s h = absurd (true≢false (sym h))
 
 left_smaller : (s : Syntax) → is_bare s ≡ true → tree_size (left_of s) < tree_size s
+unfolding own_shown spine_shown
 left_smaller (Shaped (expr Binary) (Both b (Both l p))) h = omega arith
 left_smaller (Shaped (expr Assign) (Both b (Both l p))) h = omega arith
 left_smaller (Shaped (expr Cast) (Both b (Both l p))) h = omega arith

@@ -19,16 +19,19 @@ use Rattle.syn_expr_parse.specs.Spines.{spine_shown}
 
 -- a new expression of what is parsed so far
 under : (v : Variant) (a p : Syntax) → spine_shown a ≡ true → spine_shown (new v (Both a p)) ≡ true
+unfolding own_shown spine_shown
 under Binary a p e = e
 under Assign a p e = e
 under Cast a p e = e
 under _ a p e = refl
 
 literal_spine : (a p : Syntax) → spine_shown a ≡ true → spine_shown (literal_of a p) ≡ true
+unfolding own_shown spine_shown
 literal_spine (Shaped (expr Path) (Both a s)) p e = e
 literal_spine s p e = refl
 
 pub onto_spine : (a l : Syntax) → spine_shown a ≡ true → spine_shown (onto a l) ≡ true
+unfolding own_shown spine_shown
 onto_spine a Nothing e = e
 onto_spine a (Node l) e = onto_spine a l e
 onto_spine a (Left l) e = onto_spine a l e
@@ -43,6 +46,7 @@ onto_spine a l e = refl
 -- ATTRIBUTES BEFORE IT
 
 own_of_spine : (s : Syntax) → spine_shown s ≡ true → own_shown s ≡ true
+unfolding own_shown spine_shown
 own_of_spine (Shaped (expr Binary) (Both (Node (Right (Unshown Nothing))) t)) e = refl
 own_of_spine (Shaped (expr Assign) (Both (Node (Right (Unshown Nothing))) t)) e = refl
 own_of_spine (Shaped (expr Cast) (Both (Node (Right (Unshown Nothing))) t)) e = refl
@@ -54,12 +58,14 @@ shown_before (Node (Right (Unshown Nothing))) b e h = h
 shown_before a b e h = absurd (true≢false (sym e))
 
 started : (v : Variant) (x k t : Syntax) → spine_shown (Shaped (expr v) (Both (Node (Left (Both x k))) t)) ≡ all_shown k
+unfolding own_shown spine_shown
 started Binary x k t = refl
 started Assign x k t = refl
 started Cast x k t = refl
 started _ x k t = refl
 
 with_attributes_spine : (a s : Syntax) → all_shown a ≡ true → spine_shown s ≡ true → spine_shown (with_attributes a s) ≡ true
+unfolding own_shown spine_shown
 with_attributes_spine (Node (Right (Unshown Nothing))) (Shaped (expr v) (Both b s)) h e = e
 with_attributes_spine (Node (Left (Both x k))) (Shaped (expr v) (Both b s)) h e = started v x (attributes_before k b) s ∙ shown_before k b h (own_of_spine (Shaped (expr v) (Both b s)) e)
 with_attributes_spine a (Shaped (expr v) (Both b s)) h e = absurd (true≢false (sym h))
@@ -121,6 +127,7 @@ by_node None e = record { is = refl }
 by_node (Some p) e = record { is = e.is }
 
 by_choice : (o : Out) → Spined o → Spined (wrap (shape choice) o)
+unfolding own_shown spine_shown
 by_choice None e = record { is = refl }
 by_choice (Some p) e = record { is = ap spine_shown (core_core p.0) ∙ e.is }
 
@@ -129,10 +136,12 @@ abbrev alone : Variant → Type 0
 alone v = (s : Syntax) → spine_shown (new v s) ≡ true
 
 by_new : (v : Variant) → alone v → (o : Out) → Spined (wrap (new v) o)
+unfolding own_shown spine_shown
 by_new v h None = record { is = refl }
 by_new v h (Some p) = record { is = h p.0 }
 
 bracketed_spine : (s : Syntax) → spine_shown (new (variant_of s) s) ≡ true
+unfolding own_shown spine_shown
 bracketed_spine (Group Paren o c (Node (Right (Both s (Right Nothing))))) = refl
 bracketed_spine (Group Bracket o c (Node (Right (Both s (Left t))))) = refl
 bracketed_spine (Group Bracket o c s) = refl
@@ -143,6 +152,7 @@ by_bracketed None = record { is = refl }
 by_bracketed (Some p) = record { is = bracketed_spine p.0 }
 
 by_chain : (o : Out) (q : Parser) → Spined o → Spined (wrap Node (wrap (shape chain) (and_then o q)))
+unfolding own_shown spine_shown
 by_chain None q e = record { is = refl }
 by_chain (Some p) q e = go (q p.1)
   where
@@ -151,6 +161,7 @@ by_chain (Some p) q e = go (q p.1)
     go (Some y) = record { is = ap spine_shown (core_of_shape chain (Both p.0 y.0)) ∙ onto_spine (core p.0) y.0 e.is }
 
 by_led : (o : Out) (q : Parser) → all_known o ≡ true → ((m : Stream) → Spined (q m)) → Spined (wrap Node (wrap (shape leading) (and_then o q)))
+unfolding own_shown spine_shown
 by_led None q h e = record { is = refl }
 by_led (Some p) q h e = go (q p.1) (e p.1)
   where
@@ -173,14 +184,17 @@ label_branch false x None e f = record { is = tt }
 label_branch false x (Some p) e f = record { is = f.is }
 
 label_new : (v : Variant) → alone v → (o : Out) → Unlabelled (wrap (new v) o)
+unfolding own_shown spine_shown
 label_new v h None = record { is = tt }
 label_new v h (Some p) = record { is = λ a. h (Both a p.0) }
 
 label_choice : (o : Out) → Unlabelled o → Unlabelled (wrap Node (wrap (shape choice) o))
+unfolding own_shown spine_shown
 label_choice None e = record { is = tt }
 label_choice (Some p) e = record { is = λ a. ap (λ s. spine_shown (with_label a s)) (core_core p.0) ∙ e.is a }
 
 by_label : (o : Out) (q : Parser) → ((m : Stream) → Unlabelled (q m)) → Spined (wrap (shape labelled) (and_then o q))
+unfolding own_shown spine_shown
 by_label None q e = record { is = refl }
 by_label (Some p) q e = go (q p.1) (e p.1)
   where
@@ -202,6 +216,7 @@ block_like_spine ts = subst Spined (sym (each.block_like_is ts))
 
 -- a path, followed by braces or without
 by_path : (o : Out) (q : Parser) → Spined (wrap (shape chain) (and_then (wrap (new Path) o) q))
+unfolding own_shown spine_shown
 by_path None q = record { is = refl }
 by_path (Some p) q = go (q p.1)
   where
@@ -219,6 +234,7 @@ primary_spine ts = subst Spined (sym (each.primary_is ts))
     (by_branch (sees (at_word w_continue) ts) _ _ (by_new Continue (λ s. refl) _) (by_path (parse_rule path_as_expression ts) (parse_form braces_form)))))))))))))))
 
 by_operand : (ts : Stream) → Spined (wrap (shape chain) (and_then (parse_rule primary ts) (parse_rule postfixes)))
+unfolding own_shown spine_shown
 by_operand ts = go (parse_rule primary ts) (primary_spine ts)
   where
     go : (o : Out) → Spined o → Spined (wrap (shape chain) (and_then o (parse_rule postfixes)))
@@ -268,12 +284,15 @@ whole_spine : (ts : Stream) → Spined (parse_rule whole_expression ts)
 whole_spine ts = subst Spined (sym (each.whole_expression_is ts)) (by_chain (parse_rule disjunction ts) _ (disjunction_spine ts))
 
 pub read_spine : (ts : Stream) (s : Syntax) (r : Stream) → parse_rule whole_expression ts ≡ Some (s, r) → spine_shown (core s) ≡ true
+unfolding own_shown spine_shown
 read_spine ts s r e = ap core_spine (sym e) ∙ (whole_spine ts).is
 
 pub read_block_spine : (ts : Stream) (s : Syntax) (r : Stream) → parse_rule block_like ts ≡ Some (s, r) → spine_shown (core s) ≡ true
+unfolding own_shown spine_shown
 read_block_spine ts s r e = ap core_spine (sym e) ∙ (block_like_spine ts).is
 
 pub going_spine : (a : Syntax) (ts : Stream) (s : Syntax) (r : Stream) → spine_shown a ≡ true → wrap (onto a) (parse_rule operand_rest ts) ≡ Some (s, r) → spine_shown s ≡ true
+unfolding own_shown spine_shown
 going_spine a ts s r h e = go (parse_rule operand_rest ts) e
   where
     spine : Out → Bool

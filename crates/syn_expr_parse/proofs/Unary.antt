@@ -86,6 +86,7 @@ core_core : (s : Syntax) → core (core s) ≡ core s
 core_core s = let (j, t, e) = core_shaped s in ap core e ∙ sym e
 
 shows_choice : (o : Out) → CoreShown o → CoreShown (wrap (shape choice) o)
+unfolding own_shown
 shows_choice None e = record { is = refl }
 shows_choice (Some p) e = record { is = ap own_shown (core_core p.0) ∙ e.is }
 
@@ -94,6 +95,7 @@ shows_node None e = record { is = refl }
 shows_node (Some p) e = record { is = e.is }
 
 with_label_shows : (a s : Syntax) → own_shown (core (with_label a s)) ≡ true
+unfolding own_shown
 with_label_shows a (Shaped (expr v) (Both (Node (Right (Unshown Nothing))) s)) = refl
 with_label_shows a s = refl
 
@@ -120,11 +122,13 @@ block_like_shows ts =
     (shows_node _ (shows_choice _ (shows_branch (sees (at_word w_if) ts) _ _ (if_shows ts) (shows_branch (sees (at_word w_unsafe) ts) _ _ (shows_new Unsafe _) (shows_labelled (parse_form label_form ts) (parse_form after_label_form))))))
 
 literal_shows : (a p : Syntax) → own_shown a ≡ true → own_shown (literal_of a p) ≡ true
+unfolding own_shown
 literal_shows (Shaped (expr Path) (Both a s)) p e = e
 literal_shows s p e = refl
 
 -- what continues an expression hides no attributes
 pub onto_shows : (a l : Syntax) → own_shown a ≡ true → own_shown (onto a l) ≡ true
+unfolding own_shown
 onto_shows a Nothing e = e
 onto_shows a (Node l) e = onto_shows a l e
 onto_shows a (Left l) e = onto_shows a l e
@@ -138,6 +142,7 @@ onto_shows a l e = refl
 
 -- a path, followed by braces or without
 shows_path : (o : Out) (q : Parser) → CoreShown (wrap (shape chain) (and_then (wrap (new Path) o) q))
+unfolding own_shown
 shows_path None q = record { is = refl }
 shows_path (Some p) q = go (q p.1)
   where
@@ -187,4 +192,5 @@ bare_shows p ts =
     (pick_shows (sees at_ampersand ts) _ _ (new_shows Reference _) (operand_shows (parse_rule (within p primary) ts) (parse_rule postfixes) (primary_shows p ts)))))
 
 pub unary_shown : (p : Spot) (ts : Stream) (s : Syntax) (r : Stream) → bare_unary p ts ≡ Some (s, r) → own_shown s ≡ true
+unfolding own_shown
 unary_shown p ts s r e = ap shows (sym e) ∙ (bare_shows p ts).is

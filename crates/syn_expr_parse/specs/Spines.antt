@@ -5,7 +5,7 @@ use Rattle.syn_grammar.specs.Grammar.{Syntax, Nothing, Both, Right, Node, Unshow
 use Rattle.syn_expr_parse.specs.Unary.{own_shown}
 
 -- all attributes of that operand are shown
-abbrev pub spine_shown : Syntax → Bool
+unfoldable pub spine_shown : Syntax → Bool
 spine_shown (Shaped (expr Binary) (Both (Node (Right (Unshown Nothing))) (Both l p))) = spine_shown l
 spine_shown (Shaped (expr Assign) (Both (Node (Right (Unshown Nothing))) (Both l p))) = spine_shown l
 spine_shown (Shaped (expr Cast) (Both (Node (Right (Unshown Nothing))) (Both l p))) = spine_shown l

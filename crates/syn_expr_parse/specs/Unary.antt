@@ -20,7 +20,7 @@ all_shown (Node (Right (Unshown Nothing))) = true
 all_shown _ = false
 
 -- an expression has attributes, and all of them are shown
-abbrev pub own_shown : Syntax → Bool
+unfoldable pub own_shown : Syntax → Bool
 own_shown (Shaped (expr v) (Both a fields)) = all_shown a
 own_shown (Shaped (expr v) s) = false
 own_shown _ = true

@@ -11,16 +11,15 @@ use Rattle.syn_grammar.proofs.Streams.{append_end, append_append}
 use Rattle.syn_recognize.specs.Within.{first, second}
 use Rattle.syn_recognize.specs.PrintedRows.{way}
 use Rattle.syn_recognize.specs.Written.{Written, adds, changed, drops, drops_in}
-use Rattle.syn_recognize.specs.Copies.{Copy, Reached, Refused, Stuck, Leads, copied, next, copy_form, capturing}
+use Rattle.syn_recognize.specs.Copies.{Copy, Reached, Refused, Stuck, copied, next, copy_form, capturing}
+use Rattle.syn_recognize.proofs.GuessedCourses.{Fair, Leads, copy_course, copy_kept, leads_same, settled}
 use Rattle.syn_recognize.specs.Course.{Course, reads, turns, rooted, followed, rest, kept, lists, led, self_type}
-use Rattle.syn_recognize.specs.Courses.{Fair, copy_kept, copy_course, settled}
 use Rattle.syn_tokens.specs.Building.{Building, added}
 use Rattle.syn_grammar.specs.Shape.{untagged as no-tag}
 use Rattle.syn_grammar.specs.Values.{untag}
 use Rattle.syn_recognize.proofs.Copied.{empty_is, then_is, when_is}
 use Rattle.syn_recognize.proofs.Ways.{way_shape}
 use Rattle.syn_recognize.proofs.Writes.{adds_more, adds_nothing}
-use Rattle.syn_recognize.proofs.Todo.{leads_same}
 
 -- A FORM is read as a plan that doesn't store verbatim: the output is what was written (i), and then the text of the plan's value
 abbrev pub Flat : Bool → Grammar → Plan → Stream → Stream → Type 0

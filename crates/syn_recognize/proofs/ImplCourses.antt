@@ -20,15 +20,15 @@ use Rattle.syn_recognize.specs.declared.list.List.TheVariants as List-m
 use Rattle.syn_recognize.specs.Ordered.{member}
 use Rattle.syn_recognize.specs.PrintedRows.{way}
 use Rattle.syn_recognize.specs.Written.{Written, adds}
-use Rattle.syn_recognize.specs.Copies.{Copy, Reached, Refused, Stuck, Leads, copied, next, copy_form, capturing}
+use Rattle.syn_recognize.specs.Copies.{Copy, Reached, Refused, Stuck, copied, next, copy_form, capturing}
+use Rattle.syn_recognize.proofs.GuessedCourses.{Fair, Leads, copy_course, copy_kept, guessed_generics, guessed_lists, leads_same, led_by}
 use Rattle.syn_recognize.specs.Course.{Course, reads, turns, rest, kept, lists, led as following-generics, self_type}
-use Rattle.syn_recognize.specs.Courses.{Fair, copy_kept, copy_course, led_by, guessed_lists, guessed_generics, no_parameters, shown_generics, impl_parameters}
-use Rattle.syn_recognize.proofs.Todo.{leads_same}
+use Rattle.syn_recognize.specs.Courses.{no_parameters, shown_generics, impl_parameters}
 use Rattle.syn_recognize.proofs.Writes.{adds_more}
 use Rattle.syn_recognize.proofs.Ways.{way_left, way_right, way_both, way_nothing}
 use Rattle.syn_recognize.proofs.Lists.{none_present}
 use Rattle.syn_recognize.proofs.FadingParts.{parameters_never}
-use Rattle.syn_recognize.proofs.Guessed.{generics_present, generics_lack}
+use Rattle.syn_recognize.proofs.Drafts.{generics_present, generics_lack}
 use Rattle.syn_recognize.proofs.ImplGenerics.{none_absent, none_bare, none_open, none_refused, some_kept}
 use Rattle.syn_recognize.proofs.CourseProofs.{Flat, Kept, Written-as, Kept-as, Meets, reads_written, turns_written, rest_written, kept_written, reads_kept, turns_kept, kept_is}
 

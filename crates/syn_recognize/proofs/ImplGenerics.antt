@@ -8,7 +8,8 @@ use Rattle.syn_tokens.specs.Spans.{at}
 use Rattle.syn_recognize.specs.PrintedRows.{way}
 use Rattle.syn_recognize.specs.Written.{Written, adds}
 use Rattle.syn_recognize.specs.Copies.{Copy, Refused, next, copy_form}
-use Rattle.syn_recognize.specs.Courses.{ends_next, no_parameters, guessed_generics, guessed_lists, impl_parameters, printed_generics, written_generics}
+use Rattle.syn_recognize.proofs.GuessedCourses.{guessed_generics, guessed_lists}
+use Rattle.syn_recognize.specs.Courses.{ends_next, no_parameters, impl_parameters, printed_generics, written_generics}
 use Rattle.syn_recognize.proofs.FadingParts.{generics_absent, generics_bare, generics_open, generics_kept, generics_refused}
 use Rattle.syn_recognize.proofs.Writes.{adds_more, adds_none}
 

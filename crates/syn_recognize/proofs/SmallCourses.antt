@@ -18,10 +18,10 @@ use Rattle.syn_grammar.proofs.DecidedByTokens.{one_where_seen, trees_known}
 use Rattle.syn_recognize.specs.Within.{first}
 use Rattle.syn_recognize.specs.PrintedRows.{way}
 use Rattle.syn_recognize.specs.Written.{Written, adds}
-use Rattle.syn_recognize.specs.Copies.{Reached, Refused, Stuck, Leads, copied, next, copy_form, capturing}
+use Rattle.syn_recognize.specs.Copies.{Reached, Refused, Stuck, copied, next, copy_form, capturing}
+use Rattle.syn_recognize.proofs.GuessedCourses.{Fair, Leads, copy_course, copy_kept, leads_same}
 use Rattle.syn_recognize.specs.Course.{Course, reads, turns, rooted, rest, kept}
-use Rattle.syn_recognize.specs.Courses.{Fair, by_roots, copy_kept, copy_course, trees_in_braces}
-use Rattle.syn_recognize.proofs.Todo.{leads_same}
+use Rattle.syn_recognize.specs.Courses.{by_roots, trees_in_braces}
 use Rattle.syn_recognize.proofs.Writes.{adds_more}
 use Rattle.syn_recognize.proofs.CourseProofs.{Goes, Kept, Meets, Written-as, Kept-as, reads_written, turns_written, rest_written, kept_written, reads_kept, turns_kept, kept_is, goes_written, goes_kept}
 

@@ -24,12 +24,11 @@ use Rattle.syn_grammar.proofs.StatementPlans.{statement_plan_is}
 use Rattle.syn_recognize.specs.Within.{first, second}
 use Rattle.syn_recognize.specs.PrintedRows.{way}
 use Rattle.syn_recognize.specs.Written.{Written, adds}
-use Rattle.syn_recognize.specs.Copies.{Copy, Reached, Refused, Stuck, Leads, copied, next, copy_form, capturing}
+use Rattle.syn_recognize.specs.Copies.{Copy, Reached, Refused, Stuck, copied, next, copy_form, capturing}
+use Rattle.syn_recognize.proofs.GuessedCourses.{Fair, Leads, copy_course, copy_kept, leads_same, settled}
 use Rattle.syn_recognize.specs.Course.{Course, reads, turns, followed, rest}
-use Rattle.syn_recognize.specs.Courses.{Fair, copy_kept, copy_course, settled}
 use Rattle.syn_recognize.specs.Stages.{planned_course}
 use Rattle.syn_recognize.specs.declared.plan.Planned.TheVariants as Planned-m
-use Rattle.syn_recognize.proofs.Todo.{leads_same}
 use Rattle.syn_recognize.proofs.Ways.{way_both, way_left, way_node, way_right, way_shape}
 use Rattle.syn_recognize.proofs.Writes.{adds_more}
 use Rattle.syn_recognize.proofs.Copied.{following, empty_is, then_is, wrapped}
@@ -41,7 +40,7 @@ inner (reads g d) = d
 inner d = d
 
 -- an item after its attributes
-abbrev item_course : Course
+abbrev pub item_course : Course
 item_course = inner (planned_course Planned-m.Item)
 
 item_after_goes : (a : Bool) (ts m : Stream) (x : Syntax) → parse_rule attributes ts ≡ Some (x, m) → Goes a item_course (item_after x) (end ⧺ way a x) m

@@ -1,9 +1,9 @@
 -- What writes that follow each other leave.
-use Rattle.std.proofs.Common.{◌≡◌, ℕ, Bool, true, false, Option, Some, None, [], ◌∷◌, refl, sym, ap, ◌∙◌, true≢false}
+use Rattle.std.proofs.Common.{◌≡◌, ℕ, Bool, true, false, Option, Some, None, List, [], ◌∷◌, refl, sym, ap, ◌∙◌, true≢false}
 use Rattle.syn_grammar.specs.Words.{Text}
 use Rattle.syn_grammar.specs.Tokens.{Span, Delimiter, Stream, end, ident, leaf, punct, group, ◌⧺◌}
 use Rattle.syn_grammar.specs.Grammar.{Syntax, Mark, print}
-use Rattle.syn_tokens.specs.Building.{Building, Closes, added, closed_in, into_group, out_of_group}
+use Rattle.syn_tokens.specs.Building.{Building, Closes, OpenGroup, added, closed_in, into_group, out_of_group}
 use Rattle.syn_tokens.specs.Delimiters.{delimiter_of}
 use Rattle.syn_tokens.specs.Leaves.{syntax_of_word}
 use Rattle.syn_tokens.specs.Spans.{at}
@@ -13,7 +13,7 @@ use Rattle.syn_tokens.proofs.Builders.{closed_last}
 use Rattle.syn_tokens.proofs.Prints.{added_more, added_none, added_group}
 use Rattle.syn_recognize.specs.Trailing.{IsLeaf}
 use Rattle.syn_recognize.specs.PrintedRows.{way}
-use Rattle.syn_recognize.specs.Written.{Written, adds, changed, drops_in, enters, leaves}
+use Rattle.syn_recognize.specs.Written.{Written, adds, changed, closed, closed_in as closed_out, drops_in, enters, leaves, none_open}
 use Rattle.syn_recognize.proofs.Ways.{way_leaf}
 
 abbrev into : Bool → Option Building → Written
@@ -107,3 +107,25 @@ three_are w c d e s t u = ap (λ z. adds z (punct e false (at u) end)) (adds_mor
     go : (a : Bool) → punct c true (at s) (punct d true (at t) (punct e false (at u) end)) ≡ way a (Mark ((c, at s) ∷ (d, at t) ∷ (e, at u) ∷ []))
     go true = refl
     go false = refl
+
+-- no group is open: nothing ends
+pub leaves_none : (c : Span) (w : Written) → closed w ≡ true → leaves c w ≡ w
+unfolding leaves out_of_group
+leaves_none c w e = ap (into w.printing) (go w.out e)
+  where
+    of : (b : Building) (gs : List OpenGroup) → b.open_groups ≡ gs → none_open gs ≡ true → closed_in b.before b.open_groups c b.stream ≡ b
+    of b [] q e = rw q refl
+    of b (g ∷ gs) q e = absurd (true≢false (sym e))
+
+    go : (o : Option Building) → closed_out o ≡ true → changed (out_of_group c) o ≡ o
+    go None e = refl
+    go (Some b) e = ap Some (of b b.open_groups refl e)
+
+-- a group is open after what was written is added as before
+pub closed_still : (w : Written) (i : Stream) → closed (adds w i) ≡ closed w
+unfolding adds
+closed_still w i = go w.out
+  where
+    go : (o : Option Building) → closed_out (changed (λ b. added b i) o) ≡ closed_out o
+    go None = refl
+    go (Some b) = refl

@@ -196,6 +196,13 @@ impl StreamBuilder {
         self.push(entry)
     }
 
+    /// Whether a group is open.
+    pub fn is_open(&self) -> bool
+        ensures { result ≡ is_open self.now }
+    {
+        !self.pending.is_empty()
+    }
+
     /// Opens a group; if memory is refused, all is unchanged.
     pub fn open(
         &mut self,
@@ -283,7 +290,7 @@ impl StreamBuilder {
     }
 
     /// The stream. It allocates nothing.
-    pub(crate) fn into_stream(self) -> TokenStream
+    pub fn into_stream(self) -> TokenStream
         requires { self.open_groups ≡ [] }
         ensures { result ≡ self.stream }
     {

@@ -7,6 +7,7 @@ ghost use Rattle.syn_tokens.specs.Lists.{listed};
 ghost use Rattle.syn_tokens.specs.Trees.{stream_of, before};
 ghost use Rattle.syn_tokens.specs.Cursors.{before_next};
 ghost use Rattle.syn_tokens.specs.Places.{place};
+ghost use Rattle.syn_tokens.specs.Faults.{out_of_memory};
 
 use crate::error::Result;
 use crate::stream::TokenStream;
@@ -114,7 +115,7 @@ impl TokenTree {
     /// A copy of the tree, with the same spans, in memory from `alloc`; fails only if memory is refused.
     pub fn try_clone(&self, alloc: Global) -> Result<TokenTree>
         ensures ok { IfOk result (λ copy. copy ≡ self.now) }
-        ensures err { IfErr result (λ e. e ≡ []) }
+        ensures err { IfErr result (λ e. e ≡ out_of_memory) }
     {
         Ok(self.copy(alloc)?)
     }
@@ -131,7 +132,7 @@ impl TokenStream {
     /// A copy of the stream, with the same spans, in memory from `alloc`; fails only if memory is refused.
     pub fn try_clone(&self, alloc: Global) -> Result<TokenStream>
         ensures ok { IfOk result (λ copy. copy ≡ self.now) }
-        ensures err { IfErr result (λ e. e ≡ []) }
+        ensures err { IfErr result (λ e. e ≡ out_of_memory) }
     {
         Ok(self.copy(alloc)?)
     }
@@ -141,7 +142,7 @@ impl TokenStream {
     #[tactic(auto, using(crate::proofs::Places::place_is, crate::proofs::Places::no_place))]
     pub fn get(&self, index: usize) -> Result<Option<TokenTree>>
         ensures ok { IfOk result (λ tree. stream_of (listed tree) ≡ place index self.now) }
-        ensures err { IfErr result (λ e. e ≡ []) }
+        ensures err { IfErr result (λ e. e ≡ out_of_memory) }
     {
         let mut rest = self.cursor();
         rest.skip(index);
