@@ -3,7 +3,7 @@ use Rattle.std.proofs.Common.{◌≡◌, Bool, true, false, List, [], ◌∷◌,
 use Rattle.std.specs.Prelude.{Option, Result}
 use Rattle.syn_grammar.specs.Words.{equals, semicolon, colon, exclamation, w_const, w_default, w_pub, w_type}
 use Rattle.syn_grammar.specs.Tokens.{Stream, Before_macro, ahead, and, at_empty_group, at_word, no, or, pick}
-use Rattle.syn_grammar.specs.Rules.{Rule, body, generics, impl_function, impl_macro_as_item, impl_type, macro_end, member_macro, module_path, signature, type, visibility, where_clause, whole_expression}
+use Rattle.syn_grammar.specs.Rules.{Rule, body, generics, impl_const, impl_function, impl_macro_as_item, impl_type, macro_end, member_macro, module_path, signature, type, visibility, where_clause}
 use Rattle.syn_grammar.specs.Grammar.{Syntax, Nothing, Both, Left, Right, Node, Case, ◌&◌, name, rule, when◌then◌else◌, word}
 use Rattle.syn_grammar.specs.Forms.{asking_punctuation, never, optional, plainly, punctuation}
 use Rattle.syn_grammar.specs.Table.{at_bang, at_equals, at_less, at_no_macro_item, at_restriction, at_semicolon, at_visibility, name_or_underscore}
@@ -17,11 +17,12 @@ use Rattle.syn_grammar.proofs.Looks.{sees_or}
 use Rattle.syn_grammar.proofs.PlanSteps.{Event, happened, left_over, marked, took, went}
 use Rattle.syn_parse.specs.Peeks.{past}
 use Rattle.syn_lower.specs.Parts.{first, second}
-use Rattle.syn_item.specs.ImplForms.{impl_function_of}
+use Rattle.syn_item.specs.ImplForms.{impl_const_from, impl_function_of}
 use Rattle.syn_item.specs.Macros.{among_members}
 use Rattle.syn_item.specs.NextWords.{constant_next, function_next, impl_macro_next, no_member_word}
 use Rattle.syn_item.specs.Planned.{Follows, OnlyKept}
 use Rattle.syn_item.specs.Stages.{impl_const_or_kept, impl_item_plan_after}
+use Rattle.syn_item.specs.Valued.{valued}
 use Rattle.syn_item.proofs.Followed.{is_kept, is_refused}
 use Rattle.syn_item.proofs.MemberFunctions.{function_on, other_on}
 use Rattle.syn_item.proofs.PlanRows.{answers, of_macro, row_is, row_read, row_refused, wraps}
@@ -209,25 +210,16 @@ module _ (k : Rule) (ts : Stream) (a : Syntax) (m : Stream) where
   pub macro_refused : impl_macro_next m ≡ true → sees at_no_macro_item m ≡ false → wrap (Both a) (parse_rule member_macro m) ≡ None → whole ≡ None
   macro_refused g h e = macro_goes g ∙ read_on h ∙ attributed (parse_rule member_macro m) ∙ ap (wrap (λ s. Node (Case impl_macro_as_item (among_members s)))) e
 
--- A CONSTANT that is kept verbatim: with generics, without a value, or with a where clause
+-- A CONSTANT: with generics it is kept verbatim; after its type, its value decides
 module _ (k : Rule) (ts : Stream) (a v d c n : Syntax) (m r q : Stream) (word_read : parse_form (plainly (word w_const)) m ≡ Some (c, r)) (name_read : parse_form name_or_underscore r ≡ Some (n, q)) where
   pub generics_kept : sees at_less q ≡ true → OnlyKept k ts (run_plan (impl_const_or_kept a v d) k ts m)
   unfolding impl_const_plan kept_end
   generics_kept h = is_kept k ts (took c r ∷ took n q ∷ went true ∷ marked ∷ []) (impl_const_or_kept a v d) m (word_read, (name_read, (h, tt))) (λ g. λ s. λ t. λ e. λ w. λ z. refl)
 
   module _ (s t : Syntax) (q1 q2 : Stream) (no_less : sees at_less q ≡ false) (colon_read : parse_form (punctuation colon) q ≡ Some (s, q1)) (type_read : parse_rule type q1 ≡ Some (t, q2)) where
-    pub value_kept : sees at_equals q2 ≡ false → OnlyKept k ts (run_plan (impl_const_or_kept a v d) k ts m)
-    unfolding impl_const_plan kept_end
-    value_kept h =
-        is_kept k ts (took c r ∷ took n q ∷ went false ∷ took s q1 ∷ took t q2 ∷ went false ∷ marked ∷ []) (impl_const_or_kept a v d) m
-        (word_read, (name_read, (no_less, (colon_read, (type_read, (h, tt)))))) (λ w. λ z. refl)
-
-    pub clause_kept : (x e : Syntax) (q3 q4 : Stream) → sees at_equals q2 ≡ true → parse_form (punctuation equals) q2 ≡ Some (x, q3) → parse_rule whole_expression q3 ≡ Some (e, q4) → sees at_semicolon q4 ≡ false →
-        OnlyKept k ts (run_plan (impl_const_or_kept a v d) k ts m)
-    unfolding impl_const_plan kept_end
-    clause_kept x e q3 q4 h i j l =
-        is_kept k ts (took c r ∷ took n q ∷ went false ∷ took s q1 ∷ took t q2 ∷ went true ∷ took x q3 ∷ took e q4 ∷ went false ∷ marked ∷ []) (impl_const_or_kept a v d) m
-        (word_read, (name_read, (no_less, (colon_read, (type_read, (h, (i, (j, (l, tt))))))))) (λ w. λ z. refl)
+    pub value_goes : run_plan (impl_const_or_kept a v d) k ts m ≡ run_plan (valued (λ y. Node (Case impl_const (impl_const_from a v d c n s t y)))) k ts q2
+    unfolding impl_const_plan
+    value_goes = happened k ts (took c r ∷ took n q ∷ went false ∷ took s q1 ∷ took t q2 ∷ []) (impl_const_or_kept a v d) m (word_read, (name_read, (no_less, (colon_read, (type_read, tt)))))
 
 -- A TYPE: without `=` after its generics it is kept verbatim
 module _ (k : Rule) (ts : Stream) (a v d : Syntax) (m : Stream) where

@@ -1,20 +1,22 @@
 -- The plan of items, by the next token.
 use Rattle.std.proofs.Common.{◌≡◌, Bool, true, false, List, [], ◌∷◌, Some, None, refl, sym, ap, subst, ◌∙◌, true≢false}
 use Rattle.std.specs.Prelude.{Option, Result}
-use Rattle.syn_grammar.specs.Words.{colon, equals, exclamation, semicolon, w_async, w_auto, w_const, w_default, w_enum, w_extern, w_fn, w_impl, w_macro, w_mod, w_mut, w_pub, w_static, w_struct, w_trait, w_try, w_type, w_union, w_unsafe, w_use}
+use Rattle.syn_grammar.specs.Words.{colon, exclamation, semicolon, w_async, w_auto, w_const, w_default, w_enum, w_extern, w_fn, w_impl, w_macro, w_mod, w_mut, w_pub, w_static, w_struct, w_trait, w_try, w_type, w_union, w_unsafe, w_use}
 use Rattle.syn_grammar.specs.Tokens.{Brace, Stream, Before_macro, Begins_item, ahead, and, at_empty_group, at_word, no, or, pick, ◌and_also◌, ◌or_else◌}
-use Rattle.syn_grammar.specs.Rules.{Rule, body, enumeration, fields_named, function, generics, inner_attributes, items, macro_as_item, macro_as_item_rest, macro_end, module_item, module_path, macro_item_rest, signature, structure, structure_body, type, union_item, variants, visibility, where_clause, whole_expression}
+use Rattle.syn_grammar.specs.Rules.{Rule, body, const_item, enumeration, fields_named, function, generics, inner_attributes, items, macro_as_item, macro_as_item_rest, macro_end, module_item, module_path, macro_item_rest, signature, static_item, structure, structure_body, type, union_item, variants, visibility, where_clause}
 use Rattle.syn_grammar.specs.Grammar.{Grammar, Syntax, Nothing, Both, Left, Right, Node, Case, Unshown, ◌&◌, empty, inside, name, name_or, rule, unshown, when◌then◌else◌, word}
 use Rattle.syn_grammar.specs.Forms.{asking_punctuation, never, optional, plainly, punctuation}
-use Rattle.syn_grammar.specs.Table.{at_bang, at_colon, at_equals, at_extern, at_less, at_macro_name, at_no_macro_item, at_semicolon, item_word, name_or_underscore}
+use Rattle.syn_grammar.specs.Table.{at_bang, at_colon, at_extern, at_less, at_macro_name, at_no_macro_item, at_semicolon, item_word, name_or_underscore}
 use Rattle.syn_grammar.specs.Take.{Out, sees}
 use Rattle.syn_grammar.specs.Run.{branch, parse_form, parse_rule, wrap}
 use Rattle.syn_grammar.specs.Plan.{Plan, ends, follow, run_plan}
 use Rattle.syn_grammar.specs.ItemPlan.{Place, public, unwritten, plain, absent, bare_impl_plan, after_visibility, const_plan, definition_plan, enum_plan, function_end, inherited, item_after, kept_end, macro_plan, module_plan, other_plan, static_plan, struct_plan, trait_or_alias, trait_plan, type_plan, union_plan, use_plan}
 use Rattle.syn_grammar.proofs.Each.{macro_as_item_rest_is, macro_item_rest_is}
 use Rattle.syn_grammar.proofs.PlanSteps.{Event, happened, left_over, marked, took, went}
+use Rattle.syn_item.specs.ItemForms.{const_from, static_from}
 use Rattle.syn_item.specs.ItemTurns.{const_or_kept_turn, const_turn, default_impl_turn, default_next, extern_turn, function_turn, no_visibility, other_kinds_turn, place_next, unsafe_turn}
 use Rattle.syn_item.specs.Planned.{Follows, OnlyKept}
+use Rattle.syn_item.specs.Valued.{static_valued, valued}
 use Rattle.syn_item.proofs.Followed.{is_kept}
 use Rattle.syn_item.proofs.ImplPlans.{none_written}
 use Rattle.syn_item.proofs.ItemKinds.{enum_goes, module_goes, struct_goes, union_goes}
@@ -281,12 +283,12 @@ module _ (k : Rule) (ts : Stream) (a v w u n : Syntax) (m m1 m2 m3 : Stream) (wo
   unfolding static_plan kept_end
   untyped_kept h = is_kept k ts (took w m1 ∷ took u m2 ∷ took n m3 ∷ went false ∷ marked ∷ []) (static_plan a v) m (word_read, (mut_read, (name_read, (h, tt)))) (λ q. λ e. λ z. refl)
 
-  pub unvalued_kept : (c t : Syntax) (m4 m5 : Stream) → sees at_colon m3 ≡ true → parse_form (punctuation colon) m3 ≡ Some (c, m4) → parse_rule type m4 ≡ Some (t, m5) → sees at_equals m5 ≡ false → OnlyKept k ts (run_plan (static_plan a v) k ts m)
-  unfolding static_plan kept_end
-  unvalued_kept c t m4 m5 h i j l =
-      is_kept k ts (took w m1 ∷ took u m2 ∷ took n m3 ∷ went true ∷ took c m4 ∷ took t m5 ∷ went false ∷ marked ∷ []) (static_plan a v) m (word_read, (mut_read, (name_read, (h, (i, (j, (l, tt))))))) (λ z. refl)
+  pub static_value_goes : (c t : Syntax) (m4 m5 : Stream) → sees at_colon m3 ≡ true → parse_form (punctuation colon) m3 ≡ Some (c, m4) → parse_rule type m4 ≡ Some (t, m5) →
+      run_plan (static_plan a v) k ts m ≡ run_plan (static_valued (λ y. Node (Case static_item (static_from a v w u n c t y)))) k ts m5
+  unfolding static_plan
+  static_value_goes c t m4 m5 h i j = happened k ts (took w m1 ∷ took u m2 ∷ took n m3 ∷ went true ∷ took c m4 ∷ took t m5 ∷ []) (static_plan a v) m (word_read, (mut_read, (name_read, (h, (i, (j, tt))))))
 
--- A CONSTANT that is kept verbatim: with generics, without a value, or with a where clause
+-- A CONSTANT: with generics it is kept verbatim; after its type, its value decides
 
 module _ (k : Rule) (ts : Stream) (a v c n : Syntax) (m r q : Stream) (word_read : parse_form (item_word w_const) m ≡ Some (c, r)) (name_read : parse_form name_or_underscore r ≡ Some (n, q)) where
   pub generics_kept : sees at_less q ≡ true → OnlyKept k ts (run_plan (const_or_kept_turn a v) k ts m)
@@ -294,15 +296,6 @@ module _ (k : Rule) (ts : Stream) (a v c n : Syntax) (m r q : Stream) (word_read
   generics_kept h = is_kept k ts (took c r ∷ took n q ∷ went true ∷ marked ∷ []) (const_or_kept_turn a v) m (word_read, (name_read, (h, tt))) (λ g. λ s. λ t. λ e. λ w. λ z. refl)
 
   module _ (s t : Syntax) (q1 q2 : Stream) (no_less : sees at_less q ≡ false) (colon_read : parse_form (punctuation colon) q ≡ Some (s, q1)) (type_read : parse_rule type q1 ≡ Some (t, q2)) where
-    pub value_kept : sees at_equals q2 ≡ false → OnlyKept k ts (run_plan (const_or_kept_turn a v) k ts m)
-    unfolding const_plan kept_end
-    value_kept h =
-        is_kept k ts (took c r ∷ took n q ∷ went false ∷ took s q1 ∷ took t q2 ∷ went false ∷ marked ∷ []) (const_or_kept_turn a v) m
-        (word_read, (name_read, (no_less, (colon_read, (type_read, (h, tt)))))) (λ w. λ z. refl)
-
-    pub clause_kept : (x e : Syntax) (q3 q4 : Stream) → sees at_equals q2 ≡ true → parse_form (punctuation equals) q2 ≡ Some (x, q3) → parse_rule whole_expression q3 ≡ Some (e, q4) → sees at_semicolon q4 ≡ false →
-        OnlyKept k ts (run_plan (const_or_kept_turn a v) k ts m)
-    unfolding const_plan kept_end
-    clause_kept x e q3 q4 h i j l =
-        is_kept k ts (took c r ∷ took n q ∷ went false ∷ took s q1 ∷ took t q2 ∷ went true ∷ took x q3 ∷ took e q4 ∷ went false ∷ marked ∷ []) (const_or_kept_turn a v) m
-        (word_read, (name_read, (no_less, (colon_read, (type_read, (h, (i, (j, (l, tt))))))))) (λ w. λ z. refl)
+    pub value_goes : run_plan (const_or_kept_turn a v) k ts m ≡ run_plan (valued (λ y. Node (Case const_item (const_from a v c n s t y)))) k ts q2
+    unfolding const_plan
+    value_goes = happened k ts (took c r ∷ took n q ∷ went false ∷ took s q1 ∷ took t q2 ∷ []) (const_or_kept_turn a v) m (word_read, (name_read, (no_less, (colon_read, (type_read, tt)))))

@@ -45,4 +45,5 @@ pub mod TypePlans
 pub mod Unprinted
 pub mod UsePlans
 pub mod Uses
+pub mod Valued
 pub mod WholeReads

@@ -3,10 +3,10 @@ use Rattle.std.proofs.Common.{◌≡◌, Bool, true, false, List, [], ◌∷◌,
 use Rattle.std.specs.Prelude.{Option, Result}
 use Rattle.syn_grammar.specs.Words.{colon, semicolon, exclamation, w_Self_type, w_const, w_default, w_pub, w_type}
 use Rattle.syn_grammar.specs.Tokens.{Stream, at_empty_group, at_word, or, pick, ◌or_else◌}
-use Rattle.syn_grammar.specs.Rules.{Rule, bare_trait_function, bare_trait_type, generics, macro_end, member_macro, module_path, signature, trait_function, trait_macro_as_item, trait_type, type, type_bounds, where_clause}
+use Rattle.syn_grammar.specs.Rules.{Rule, bare_trait_function, bare_trait_type, generics, macro_end, member_macro, module_path, signature, trait_const, trait_function, trait_macro_as_item, trait_type, type, type_bounds, where_clause}
 use Rattle.syn_grammar.specs.Grammar.{Grammar, Syntax, Nothing, Both, Node, Case, Unshown, Right, ◌&◌, name, rule, vanishing, when◌then◌else◌, word}
 use Rattle.syn_grammar.specs.Forms.{asking_punctuation, never, plainly, punctuation}
-use Rattle.syn_grammar.specs.Table.{at_bang, at_colon, at_less, at_no_trait_macro, at_semicolon, name_or_underscore, optional_type, optional_value}
+use Rattle.syn_grammar.specs.Table.{at_bang, at_colon, at_less, at_no_trait_macro, at_semicolon, name_or_underscore, optional_type}
 use Rattle.syn_grammar.specs.Take.{Out, sees}
 use Rattle.syn_grammar.specs.Run.{and_then, parse_form, parse_rule, wrap}
 use Rattle.syn_grammar.specs.Plan.{Plan, ends, follow, run_plan}
@@ -21,7 +21,8 @@ use Rattle.syn_item.specs.Macros.{among_members}
 use Rattle.syn_item.specs.NextWords.{function_next, marked_next}
 use Rattle.syn_item.specs.Planned.{Follows, OnlyKept}
 use Rattle.syn_item.specs.Stages.{trait_const_or_kept, trait_item_plan_after}
-use Rattle.syn_item.specs.TraitForms.{function_end_form}
+use Rattle.syn_item.specs.TraitForms.{function_end_form, trait_const_from}
+use Rattle.syn_item.specs.Valued.{defaulted}
 use Rattle.syn_item.proofs.Followed.{is_kept, is_refused}
 use Rattle.syn_item.proofs.MemberFunctions.{function_on, other_on, trait_function_goes}
 use Rattle.syn_item.proofs.PlanRows.{of_hidden, of_macro, row_is}
@@ -133,14 +134,13 @@ module _ (k : Rule) (ts : Stream) (a : Syntax) (m : Stream) where
           pub macro_refused : sees (at_word w_Self_type) m ≡ false → wrap (Both a) (parse_rule member_macro m) ≡ None → run ≡ None
           macro_refused h e = macro_goes h ∙ attributed (parse_rule member_macro m) ∙ ap (wrap (λ s. Node (Case trait_macro_as_item (among_members s)))) e
 
--- A CONSTANT that is kept verbatim: with generics, or with a where clause
+-- A CONSTANT: with generics it is kept verbatim; after its type, its value decides
 module _ (k : Rule) (ts : Stream) (a c n : Syntax) (m r q : Stream) (word_read : parse_form (plainly (word w_const)) m ≡ Some (c, r)) (name_read : parse_form name_or_underscore r ≡ Some (n, q)) where
   pub generics_kept : sees at_less q ≡ true → OnlyKept k ts (run_plan (trait_const_or_kept a) k ts m)
   unfolding trait_const_plan kept_end
   generics_kept h = is_kept k ts (took c r ∷ took n q ∷ went true ∷ marked ∷ []) (trait_const_or_kept a) m (word_read, (name_read, (h, tt))) (λ g. λ s. λ t. λ e. λ w. λ z. refl)
 
-  pub clause_kept : (s t e : Syntax) (q1 q2 q3 : Stream) → sees at_less q ≡ false → parse_form (punctuation colon) q ≡ Some (s, q1) → parse_rule type q1 ≡ Some (t, q2) → parse_form optional_value q2 ≡ Some (e, q3) → sees at_semicolon q3 ≡ false →
-      OnlyKept k ts (run_plan (trait_const_or_kept a) k ts m)
-  unfolding trait_const_plan kept_end
-  clause_kept s t e q1 q2 q3 h i j l o =
-      is_kept k ts (took c r ∷ took n q ∷ went false ∷ took s q1 ∷ took t q2 ∷ took e q3 ∷ went false ∷ marked ∷ []) (trait_const_or_kept a) m (word_read, (name_read, (h, (i, (j, (l, (o, tt))))))) (λ w. λ z. refl)
+  module _ (s t : Syntax) (q1 q2 : Stream) (no_less : sees at_less q ≡ false) (colon_read : parse_form (punctuation colon) q ≡ Some (s, q1)) (type_read : parse_rule type q1 ≡ Some (t, q2)) where
+    pub default_goes : run_plan (trait_const_or_kept a) k ts m ≡ run_plan (defaulted (λ y. Node (Case trait_const (trait_const_from a c n s t y)))) k ts q2
+    unfolding trait_const_plan
+    default_goes = happened k ts (took c r ∷ took n q ∷ went false ∷ took s q1 ∷ took t q2 ∷ []) (trait_const_or_kept a) m (word_read, (name_read, (no_less, (colon_read, (type_read, tt)))))

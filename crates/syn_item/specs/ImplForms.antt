@@ -1,15 +1,15 @@
 -- HOW IMPLS AND THEIR MEMBERS ARE READ: forms of their parts, and what the parts represent together.
-use Rattle.syn_grammar.specs.Words.{exclamation, equals, semicolon, w_const, w_default, w_type}
+use Rattle.syn_grammar.specs.Words.{exclamation, equals, w_const, w_default, w_type}
 use Rattle.std.specs.Prelude.{◌≡◌, None, Result, Ok, Err}
 use Rattle.syn_grammar.specs.Tokens.{Stream, at_generics}
 use Rattle.syn_grammar.specs.Take.{Out, sees}
 use Rattle.syn_grammar.specs.Run.{and_then, branch, parse_form, parse_rule, wrap}
-use Rattle.syn_grammar.specs.Rules.{attributes, for_self_type, generics, impl_body, lifetime_parameter, type, type_path, visibility, where_clause}
+use Rattle.syn_grammar.specs.Rules.{attributes, for_self_type, generics, impl_body, lifetime_parameter, type, type_path, visibility}
 use Rattle.syn_grammar.specs.Grammar.{Grammar, Syntax, Both, Node, ◌&◌, empty, generics_before, name, rule, when◌then◌else◌, word, Nothing, Unshown}
 use Rattle.syn_grammar.specs.Forms.{optional, plainly, punctuation}
 use Rattle.syn_grammar.specs.Table.{at_brace, at_exclamation, at_for, at_module_path, kept_generics, name_or_underscore, parameter}
 use Rattle.syn_tokens.specs.Idents.{IdentValue}
-use Rattle.syn_tokens.specs.Kinds.{Const, «Type» as TypeToken, const_syntax, default_syntax, for_syntax, impl_syntax, not_syntax, type_syntax, unsafe_syntax}
+use Rattle.syn_tokens.specs.Kinds.{Const, «Type» as TypeToken, colon_syntax, const_syntax, default_syntax, eq_syntax, for_syntax, impl_syntax, not_syntax, type_syntax, unsafe_syntax}
 use Rattle.syn_tokens.specs.InOrder.{pair_of}
 use Rattle.syn_tokens.specs.Leaves.{maybe, syntax_of_ident}
 use Rattle.syn_lower.specs.Attributes.{attributes_syntax}
@@ -18,7 +18,11 @@ use Rattle.syn_lower.specs.Types.{syntax_of_Type}
 use Rattle.syn_grammar.specs.Promises.{itself}
 use Rattle.syn_tree.specs.Restriction.{syntax_of_Visibility}
 use Rattle.syn_item.specs.Impls.{implemented}
+use Rattle.syn_item.specs.Pieces.{clause_end_form, clause_end_syntax}
+use Rattle.syn_item.specs.Valued.{value_syntax}
+use Rattle.syn_item.specs.declared.impls.members.ConstParts.{ConstParts}
 use Rattle.syn_item.specs.declared.impls.members.MemberMarks.{MemberMarks}
+use Rattle.syn_item.specs.declared.impls.members.TypeEnd.{TypeEnd}
 use Rattle.syn_item.specs.declared.impls.parsing.ImplMarks.{ImplMarks}
 use Rattle.syn_item.specs.declared.impls.parsing.ImplTypes.{ImplTypes}
 
@@ -81,7 +85,10 @@ type_head_syntax p = Both (type_syntax p.0) (Both (syntax_of_ident p.1) (first p
 
 -- `=`, a type, a where clause and `;`
 abbrev pub type_rest_form : Grammar
-type_rest_form = punctuation equals & rule type & rule where_clause & punctuation semicolon
+type_rest_form = punctuation equals & rule type & clause_end_form
+
+abbrev pub type_end_syntax : TypeEnd → Syntax
+type_end_syntax e = Both (eq_syntax e.eq_token) (Both (syntax_of_Type e.ty) (clause_end_syntax (e.where_clause, e.semi_token)))
 
 -- what is before the words of a member: attributes, a visibility and perhaps `default`
 abbrev pub member_marks_form : Grammar
@@ -98,6 +105,14 @@ impl_function_of a v d s b = Both a (Both v (Both d (Both s b)))
 abbrev pub const_rest_of : Syntax → Syntax → Syntax → Syntax
 const_rest_of (Both a (Both v d)) (Both k n) rest = Both a (Both v (Both d (Both k (Both n (Both (Unshown Nothing) rest)))))
 const_rest_of m h rest = rest
+
+-- a constant of what is before its value, and of this
+abbrev pub impl_const_from : Syntax → Syntax → Syntax → Syntax → Syntax → Syntax → Syntax → Syntax → Syntax
+impl_const_from a v d c n s t y = Both a (Both v (Both d (Both c (Both n (Both (Unshown Nothing) (Both s (Both t y)))))))
+
+-- the same of what is before its word, and of its parts
+abbrev pub impl_const_of : Syntax → Syntax → Syntax → ConstParts → Syntax
+impl_const_of a v d p = impl_const_from a v d (const_syntax p.const_token) (syntax_of_ident p.ident) (colon_syntax p.colon_token) (syntax_of_Type p.ty) (value_syntax p.value)
 
 -- a type of what is before its word, of its head, and of what follows its generics
 abbrev pub type_rest_of : Syntax → Syntax → Syntax → Syntax

@@ -7,9 +7,9 @@ use Rattle.syn_grammar.specs.Grammar.{Syntax, Nothing, Both, Unshown, Grammar, e
 use Rattle.syn_grammar.specs.Forms.{optional, plainly, punctuation}
 use Rattle.syn_grammar.specs.Take.{Out, only}
 use Rattle.syn_grammar.specs.Table.{at_macro_name, at_semicolon, item_word, name_or_underscore}
-use Rattle.syn_tokens.specs.Kinds.{eq_syntax, plus_syntax, semi_syntax, Eq, Plus, Semi}
+use Rattle.syn_tokens.specs.Kinds.{colon_syntax, const_syntax, eq_syntax, plus_syntax, semi_syntax, static_syntax, Eq, Plus, Semi}
 use Rattle.syn_tokens.specs.Kinds as kinds
-use Rattle.syn_tokens.specs.Leaves.{maybe}
+use Rattle.syn_tokens.specs.Leaves.{maybe, syntax_of_ident}
 use Rattle.syn_tokens.specs.Listing.{list_of}
 use Rattle.syn_tokens.specs.Lists.{Sequence}
 use Rattle.syn_lower.specs.Bodies.{attributes_in_body}
@@ -20,7 +20,10 @@ use Rattle.syn_lower.specs.Types.{syntax_of_Type}
 use Rattle.syn_lower.specs.declared.attr.Attribute.{Attribute}
 use Rattle.syn_lower.specs.declared.bounds.TypeParamBound.TheVariants as TypeParamBound-m
 use Rattle.syn_tree.specs.Derive.{item_of}
-use Rattle.syn_item.specs.Simple.{aliased, content_syntax, module_content, syntax_of_WhereClausePlacement}
+use Rattle.syn_item.specs.Simple.{aliased, content_syntax, module_content, mutability_syntax, syntax_of_WhereClausePlacement}
+use Rattle.syn_item.specs.Valued.{value_syntax}
+use Rattle.syn_item.specs.declared.item.parsing.functions.ConstParts.{ConstParts}
+use Rattle.syn_item.specs.declared.item.parsing.kept.StaticParts.{StaticParts}
 use Rattle.syn_item.specs.declared.simple.WhereClausePlacement.TheVariants as WhereClausePlacement-m
 use Rattle.syn_item.specs.declared.simple.aliases.AliasParts.{AliasParts}
 use Rattle.syn_item.specs.declared.simple.aliases.Clauses.{Clauses}
@@ -40,6 +43,23 @@ const_form = unshown & item_word w_const & name_or_underscore & unshown & value_
 
 abbrev pub static_form : Grammar
 static_form = item_word w_static & optional w_mut & plainly name & value_form
+
+-- a constant of what is before its value, and of this
+abbrev pub const_from : Syntax → Syntax → Syntax → Syntax → Syntax → Syntax → Syntax → Syntax
+const_from attrs vis c n s t y = item_of attrs vis (Both (Unshown Nothing) (Both c (Both n (Both (Unshown Nothing) (Both s (Both t y))))))
+
+-- the same of its attributes, its visibility and its parts
+abbrev pub const_of : Syntax → Syntax → ConstParts → Syntax
+const_of attrs vis p = const_from attrs vis (const_syntax p.const_token) (syntax_of_ident p.ident) (colon_syntax p.colon_token) (syntax_of_Type p.ty.value) (value_syntax p.value)
+
+-- a static of what is before its value, and of this
+abbrev pub static_from : Syntax → Syntax → Syntax → Syntax → Syntax → Syntax → Syntax → Syntax → Syntax
+static_from attrs vis w u n s t y = item_of attrs vis (Both w (Both u (Both n (Both s (Both t y)))))
+
+-- the same of its attributes, its visibility and its parts
+abbrev pub static_of : Syntax → Syntax → StaticParts → Syntax
+static_of attrs vis p =
+    static_from attrs vis (static_syntax p.static_token) (mutability_syntax p.mutability) (syntax_of_ident p.ident) (colon_syntax p.colon_token) (syntax_of_Type p.ty.value) (value_syntax p.value)
 
 -- TYPE ALIASES after their visibility
 

@@ -23,3 +23,4 @@ pub mod TraitForms
 pub mod Traits
 pub mod UseForms
 pub mod Uses
+pub mod Valued

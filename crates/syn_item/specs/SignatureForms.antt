@@ -1,9 +1,9 @@
 -- HOW SIGNATURES ARE READ, part by part.
 use Rattle.std.specs.Prelude.{Bool, true, false, List, [], ◌∷◌, Option, Some, None}
-use Rattle.syn_grammar.specs.Words.{ampersand, colon, comma, w_mut, w_self, w_underscore}
+use Rattle.syn_grammar.specs.Words.{ampersand, colon, comma, w_fn, w_mut, w_self, w_underscore}
 use Rattle.syn_grammar.specs.Tokens.{Paren, Span, Str, Stream, Before_less, at_literal, at_lifetime, ident, pick}
-use Rattle.syn_grammar.specs.Rules.{attributes, inputs, later_inputs, pattern, receiver_rest, return_type, type, variadic, where_clause}
-use Rattle.syn_grammar.specs.Grammar.{Syntax, Nothing, Both, Left, Right, Node, Shaped, Token, Mark, Grammar, at_unnamed, empty, lifetime, literal_of, ◌&◌, when◌then◌else◌, rule, unshown, word}
+use Rattle.syn_grammar.specs.Rules.{attributes, generics, inputs, later_inputs, pattern, receiver_rest, return_type, type, variadic, where_clause}
+use Rattle.syn_grammar.specs.Grammar.{Syntax, Nothing, Both, Left, Right, Node, Shaped, Token, Mark, Grammar, at_unnamed, empty, lifetime, literal_of, name, ◌&◌, when◌then◌else◌, rule, unshown, word}
 use Rattle.syn_grammar.specs.Forms.{never, optional, plainly, punctuation}
 use Rattle.syn_grammar.specs.Table.{at_colon, at_colons, at_comma, at_ellipsis, at_receiver}
 use Rattle.syn_grammar.specs.Take.{Parser, leaf_span, sees, take_mark}
@@ -11,9 +11,10 @@ use Rattle.syn_grammar.specs.Run.{parse_form, parse_rule, wrap}
 use Rattle.syn_grammar.specs.Shape.{parameters}
 use Rattle.syn_grammar.specs.Values.{more_members, no_members, one_member}
 use Rattle.syn_grammar.specs.Promises.{itself}
-use Rattle.syn_tokens.specs.Kinds.{async_syntax, comma_syntax, const_syntax}
+use Rattle.syn_tokens.specs.Idents.{IdentValue}
+use Rattle.syn_tokens.specs.Kinds.{async_syntax, comma_syntax, const_syntax, fn_syntax}
 use Rattle.syn_tokens.specs.Kinds as kinds
-use Rattle.syn_tokens.specs.Leaves.{maybe}
+use Rattle.syn_tokens.specs.Leaves.{maybe, syntax_of_ident}
 use Rattle.syn_tokens.specs.Listing.{list_of}
 use Rattle.syn_lower.specs.Generics.{where_part}
 use Rattle.syn_lower.specs.Parameters.{after}
@@ -25,6 +26,7 @@ use Rattle.syn_item.specs.declared.sig.FnArg.TheVariants as FnArg-m
 use Rattle.syn_item.specs.declared.sig.parameters.OneParameter.TheVariants as OneParameter-m
 use Rattle.syn_item.specs.declared.sig.parameters.ParameterList.{ParameterList}
 use Rattle.syn_item.specs.declared.sig.parsing.Qualifiers.{Qualifiers}
+use Rattle.syn_item.specs.declared.sig.parsing.SignatureParts.{SignatureParts}
 
 -- BEFORE `fn`, and a signature after it
 
@@ -49,6 +51,17 @@ end_form = rule return_type & rule where_clause
 
 abbrev pub end_syntax : ReturnType-m.the_data × Option Syntax → Syntax
 end_syntax p = Both (syntax_of_ReturnType p.0) (where_part p.1)
+
+-- `fn`, a name and generics
+abbrev pub named_function_form : Grammar
+named_function_form = plainly (word w_fn) & plainly name & rule generics
+
+abbrev pub named_function_syntax : kinds.Fn × IdentValue × Syntax → Syntax
+named_function_syntax p = Both (fn_syntax p.0) (Both (syntax_of_ident p.1) (first p.2))
+
+-- a signature without what is before its `fn`
+abbrev pub signature_parts_syntax : SignatureParts → Syntax
+signature_parts_syntax p = Node (Both (fn_syntax p.named.0) (Both (syntax_of_ident p.named.1) (Both (first p.named.2) (Both (parameters_syntax p.parameters) (end_syntax p.end)))))
 
 -- RECEIVERS
 
@@ -85,11 +98,11 @@ named_pattern ts = pick (sees (at_unnamed Before_less) ts) (supplied_name (leaf_
 
 -- with a type, after these attributes and this name
 abbrev pub typed_as : Syntax → Syntax → Syntax → Syntax
-typed_as attrs name ty = Node (Both attrs (Right (Both (first name) (Both (second name) ty))))
+typed_as attrs named ty = Node (Both attrs (Right (Both (first named) (Both (second named) ty))))
 
 -- a variadic one, after these attributes and this name
 abbrev pub of_variadic : Syntax → Syntax → Syntax → Syntax
-of_variadic attrs name s = Both attrs (Both name s)
+of_variadic attrs named s = Both attrs (Both named s)
 
 -- a parameter alone that is no receiver, after its attributes
 unfoldable pub typed_parameter : Syntax → Parser
@@ -105,8 +118,8 @@ parameter_syntax (OneParameter-m.Input arg) = Left (syntax_of_FnArg arg)
 parameter_syntax (OneParameter-m.Variadic v) = Right v
 
 unfoldable pub parameter_after : Syntax → Syntax → Parser
-parameter_after attrs name ts =
-    pick (sees at_ellipsis ts) (wrap (λ v. Right (of_variadic attrs (Left (Both (first name) (second name))) v)) (parse_rule variadic ts)) (wrap (λ t. Left (typed_as attrs name t)) (parse_rule type ts))
+parameter_after attrs named ts =
+    pick (sees at_ellipsis ts) (wrap (λ v. Right (of_variadic attrs (Left (Both (first named) (second named))) v)) (parse_rule variadic ts)) (wrap (λ t. Left (typed_as attrs named t)) (parse_rule type ts))
 
 unfoldable pub other_parameter : Syntax → Parser
 other_parameter attrs ts =

@@ -1,19 +1,26 @@
 -- HOW TRAITS AND THEIR MEMBERS ARE READ: forms of their parts, and what the parts represent together.
 use Rattle.syn_grammar.specs.Words.{w_auto, w_trait, semicolon}
-use Rattle.syn_grammar.specs.Rules.{generics, supertraits, trait_items, where_clause, body}
+use Rattle.syn_grammar.specs.Rules.{generics, supertraits, trait_items, type_bounds, where_clause, body}
 use Rattle.syn_grammar.specs.Grammar.{Grammar, Syntax, Both, Node, ◌&◌, name, word, rule, unshown, when◌then◌else◌, Nothing, Unshown}
 use Rattle.syn_grammar.specs.Forms.{plainly, punctuation}
-use Rattle.syn_grammar.specs.Table.{at_semicolon, optional_item_word}
+use Rattle.syn_grammar.specs.Table.{at_semicolon, optional_item_word, optional_type}
 use Rattle.syn_tokens.specs.Idents.{IdentValue}
-use Rattle.syn_tokens.specs.Kinds.{Trait, auto_syntax, const_syntax, trait_syntax, unsafe_syntax}
+use Rattle.syn_tokens.specs.InOrder.{pair_of}
+use Rattle.syn_tokens.specs.Kinds.{Trait, auto_syntax, colon_syntax, const_syntax, eq_syntax, trait_syntax, type_syntax, unsafe_syntax}
 use Rattle.syn_tokens.specs.Leaves.{maybe, syntax_of_ident}
 use Rattle.syn_lower.specs.Attributes.{attributes_syntax}
+use Rattle.syn_lower.specs.Generics.{bounds_syntax}
 use Rattle.syn_lower.specs.Parts.{first}
+use Rattle.syn_lower.specs.Types.{syntax_of_Type}
 use Rattle.syn_tree.specs.Derive.{item_of}
 use Rattle.syn_tree.specs.Restriction.{syntax_of_Visibility}
-use Rattle.syn_item.specs.Pieces.{bounds_form, braced_form}
+use Rattle.syn_item.specs.Pieces.{bounds_form, braced_form, clause_end_form, clause_end_syntax}
+use Rattle.syn_item.specs.Valued.{default_syntax_of}
+use Rattle.syn_item.specs.declared.traits.parsing.ConstParts.{ConstParts}
 use Rattle.syn_item.specs.declared.traits.parsing.TraitHead.{TraitHead}
 use Rattle.syn_item.specs.declared.traits.parsing.TraitMarks.{TraitMarks}
+use Rattle.syn_item.specs.declared.traits.parsing.TypeEnd.{TypeEnd}
+use Rattle.syn_item.specs.declared.traits.parsing.TypeParts.{TypeParts}
 
 -- `trait`, a name and generics
 abbrev pub named_form : Grammar
@@ -47,6 +54,25 @@ unmarked_form = optional_item_word w_auto & plainly (word w_trait) & plainly nam
 -- `;` or a body
 abbrev pub function_end_form : Grammar
 function_end_form = when at_semicolon then punctuation semicolon else unshown & rule body
+
+-- a constant of what is before its value, and of this
+abbrev pub trait_const_from : Syntax → Syntax → Syntax → Syntax → Syntax → Syntax → Syntax
+trait_const_from a c n s t y = Both a (Both (Unshown Nothing) (Both c (Both n (Both (Unshown Nothing) (Both s (Both t y))))))
+
+-- the same of its attributes and its parts
+abbrev pub trait_const_of : Syntax → ConstParts → Syntax
+trait_const_of a p = trait_const_from a (const_syntax p.const_token) (syntax_of_ident p.ident) (colon_syntax p.colon_token) (syntax_of_Type p.ty) (default_syntax_of p.value)
+
+-- a type after its generics
+abbrev pub type_end_form : Grammar
+type_end_form = bounds_form type_bounds & optional_type & clause_end_form
+
+abbrev pub type_end_syntax : TypeEnd → Syntax
+type_end_syntax e = Both (bounds_syntax e.bounds) (Both (maybe (pair_of eq_syntax syntax_of_Type) e.default) (clause_end_syntax (e.where_clause, e.semi_token)))
+
+-- a type without its attributes
+abbrev pub type_parts_syntax : TypeParts → Syntax
+type_parts_syntax p = Node (Both (Unshown Nothing) (Both (type_syntax p.head.0) (Both (syntax_of_ident p.head.1) (Both (first p.head.2) (type_end_syntax p.end)))))
 
 -- a function of its signature, and of its attributes with what ends it
 abbrev pub trait_function_of : Syntax → Syntax → Syntax

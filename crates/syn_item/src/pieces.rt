@@ -3,6 +3,8 @@ ghost use Rattle.std.specs.Prelude.{◌≡◌, ◌<◌, IfOk, codes};
 ghost use Rattle.syn_grammar.specs.Rules as rules;
 ghost use Rattle.syn_grammar.specs.Rules.{Rule as GrammarRule};
 ghost use Rattle.syn_grammar.specs.Table as table;
+ghost use Rattle.syn_grammar.specs.Grammar.{Syntax};
+ghost use Rattle.syn_grammar.specs.Plan.{run_plan};
 ghost use Rattle.syn_parse.specs.Form.{◌followed_by◌, by, optional, parse, punctuation};
 ghost use Rattle.syn_tokens.specs.InOrder.{pair_of};
 ghost use Rattle.syn_tokens.specs.Kinds.{eq_syntax, plus_syntax, semi_syntax};
@@ -13,7 +15,7 @@ ghost use Rattle.syn_lower.specs.Bounds.{solid, syntax_of_TypeParamBound};
 ghost use Rattle.syn_lower.specs.Generics.{bounds_syntax};
 ghost use Rattle.syn_lower.specs.Parsing.{parse_rule, parse_form, Computes, Moved, Kept, IsSyntax, list_of};
 ghost use Rattle.syn_recognize.specs.Names.{rule_of};
-ghost use Rattle.syn_grammar.specs.Tokens.{at_word, pick};
+ghost use Rattle.syn_grammar.specs.Tokens.{Stream, at_word, pick};
 ghost use Rattle.syn_grammar.specs.Words.{equals, w_const};
 ghost use Rattle.syn_grammar.specs.Take.{sees};
 ghost use Rattle.syn_grammar.specs.MemberPlans as plan;
@@ -21,18 +23,21 @@ ghost use Rattle.syn_parse.specs.Peeks.{past};
 ghost use Rattle.syn_item.specs.Macros.{ended_macro};
 ghost use Rattle.syn_item.specs.ImplForms.{type_head_form, type_head_syntax};
 ghost use Rattle.syn_item.specs.Parts.{members_of};
-ghost use Rattle.syn_item.specs.Pieces.{bounds_form, braced_form, braced_syntax, IsMembers};
-ghost use Rattle.syn_item.specs.Planned.{CopiesBy};
+ghost use Rattle.syn_item.specs.Pieces.{bounds_form, braced_form, braced_syntax, clause_end_form, clause_end_syntax, IsMembers};
+ghost use Rattle.syn_item.specs.Planned.{CopiesBy, Follows};
+ghost use Rattle.syn_item.specs.Valued.{defaulted, default_syntax_of, value_syntax, valued};
 
 use crate::bodies::with_inner;
 use crate::simple::ended_group;
 use syn_lower::parsing::module_path;
-use syn_lower::{Attribute, Generics, TypeParamBound};
+use syn_lower::where_clause::where_clause;
+use syn_lower::{Attribute, Generics, TypeParamBound, WhereClause};
 use syn_parse::buffer::ParseBuffer;
 use syn_parse::read::lists::punctuated_list;
 use syn_parse::read::refusal::{Parsed, Refusal};
 use syn_parse::read::{Peek, Read};
 use syn_pat::Macro;
+use syn_recognize::deferred::DeferredExpr;
 use syn_recognize::looks::at_bang;
 use syn_recognize::{Rule, read_by};
 use syn_tokens::ident::Ident;
@@ -87,6 +92,56 @@ pub(crate) fn after_equals<T: Read>(input: &mut ParseBuffer<'_>) -> Parsed<Optio
     } else {
         Ok(None)
     }
+}
+
+/// `=`, an expression and `;`.
+#[derive(Drop)]
+pub(crate) struct ValueParts {
+    pub(crate) eq_token: Eq,
+    pub(crate) expr: DeferredExpr,
+    pub(crate) semi_token: Semi,
+}
+
+/// The value of a constant, after its type; `None` where the constant is kept verbatim: without a value, or with a where clause.
+pub(crate) fn value_or_kept(input: &mut ParseBuffer<'_>) -> Parsed<Option<ValueParts>>
+    ensures follows { (k : GrammarRule) → (ts : Stream) → (f : Syntax → Syntax) → Follows IsSyntax (λ p. f (value_syntax p)) k ts (run_plan (valued f) k ts input.old) result input.new }
+{
+    if !input.peek::<Eq>() {
+        return Ok(None);
+    }
+    let eq_token = input.read()?;
+    let expr = input.read()?;
+    if !input.peek::<Semi>() {
+        return Ok(None);
+    }
+    let semi_token = input.read()?;
+    Ok(Some(ValueParts {
+        eq_token,
+        expr,
+        semi_token,
+    }))
+}
+
+/// Perhaps a value after `=`, and `;`.
+#[derive(Drop)]
+pub(crate) struct DefaultParts {
+    pub(crate) default: Option<(Eq, DeferredExpr)>,
+    pub(crate) semi_token: Semi,
+}
+
+/// The value of a constant that needs none, after its type; `None` where the constant is kept verbatim: with a where clause.
+pub(crate) fn default_or_kept(input: &mut ParseBuffer<'_>) -> Parsed<Option<DefaultParts>>
+    ensures follows { (k : GrammarRule) → (ts : Stream) → (f : Syntax → Syntax) → Follows IsSyntax (λ p. f (default_syntax_of p)) k ts (run_plan (defaulted f) k ts input.old) result input.new }
+{
+    let default = after_equals(input)?;
+    if !input.peek::<Semi>() {
+        return Ok(None);
+    }
+    let semi_token = input.read()?;
+    Ok(Some(DefaultParts {
+        default,
+        semi_token,
+    }))
 }
 
 /// What ends the bounds of a type: `where`, `=` or `;`.
@@ -201,6 +256,14 @@ pub(crate) fn at_function(input: &ParseBuffer<'_>) -> bool
     } else {
         input.peek::<FunctionWord>()
     }
+}
+
+/// A where clause and `;`.
+pub(crate) fn clause_end(input: &mut ParseBuffer<'_>) -> Parsed<(Option<WhereClause>, Semi)>
+    ensures reads { Computes IsSyntax clause_end_syntax (parse_form clause_end_form input.old) result input.new }
+    ensures moved { Moved input.old result input.new }
+{
+    Ok((where_clause(input)?, input.read()?))
 }
 
 /// `type`, a name and generics.

@@ -2,7 +2,7 @@
 ghost use Rattle.std.specs.Prelude.{◌≡◌};
 ghost use Rattle.syn_grammar.specs.Rules as rules;
 ghost use Rattle.syn_grammar.specs.Forms.{punctuation};
-ghost use Rattle.syn_grammar.specs.Grammar.{Both, Nothing, Unshown};
+ghost use Rattle.syn_grammar.specs.Grammar.{Syntax, Both, Node, Case};
 ghost use Rattle.syn_grammar.specs.Plan.{run_plan};
 ghost use Rattle.syn_grammar.specs.Run.{wrap};
 ghost use Rattle.syn_grammar.specs.Take.{sees};
@@ -10,13 +10,10 @@ ghost use Rattle.syn_grammar.specs.Tokens.{Stream, at_empty_group, at_word, or};
 ghost use Rattle.syn_grammar.specs.Words.{semicolon, w_pub};
 ghost use Rattle.syn_lower.specs.Attributes.{attributes_syntax};
 ghost use Rattle.syn_lower.specs.Parsing.{of, rule, meaning_of_rule, parse_form, parse_rule, Computes, Moved, itself, IsSyntax};
-ghost use Rattle.syn_tokens.specs.Kinds.{semi_syntax, type_syntax};
-ghost use Rattle.syn_tokens.specs.Leaves.{syntax_of_ident};
-ghost use Rattle.syn_lower.specs.Generics.{where_part};
-ghost use Rattle.syn_lower.specs.Parts.{first};
+ghost use Rattle.syn_tokens.specs.Kinds.{semi_syntax};
 ghost use Rattle.syn_tree.specs.Restriction.{syntax_of_Visibility};
 ghost use Rattle.syn_item.specs.Foreign.{syntax_of_ForeignItem};
-ghost use Rattle.syn_item.specs.ForeignForms.{bare_static_syntax, foreign_function_of};
+ghost use Rattle.syn_item.specs.ForeignForms.{bare_static_syntax, foreign_function_of, foreign_type_of};
 ghost use Rattle.syn_item.specs.NextWords.{foreign_function_next, static_next};
 ghost use Rattle.syn_item.specs.Planned.{Follows};
 ghost use Rattle.syn_item.specs.Stages.{foreign_function_or_kept, foreign_item_plan_after, foreign_static_or_kept, foreign_type_or_kept};
@@ -181,6 +178,25 @@ fn foreign_type(
 ) -> Parsed<Option<ForeignItem>>
     ensures follows { (ts : Stream) → Follows IsSyntax syntax_of_ForeignItem rules.kept_foreign_item ts (run_plan (foreign_type_or_kept (attributes_syntax attrs.items) (syntax_of_Visibility vis)) rules.kept_foreign_item ts input.old) result input.new }
 {
+    match type_parts(input) {
+        Ok(Some(parts)) => Ok(Some(ForeignItem::Ty(whole_type(attrs, vis, parts)))),
+        Ok(None) => Ok(None),
+        Err(refusal) => Err(refusal),
+    }
+}
+
+/// A foreign type without its attributes and its visibility.
+#[derive(Drop)]
+struct TypeParts {
+    head: (token::Type, Ident, Generics),
+    clause: Option<WhereClause>,
+    semi_token: Semi,
+}
+
+/// A foreign type, from `type` on; `None` where it is kept verbatim. It owns nothing that is before its word.
+fn type_parts(input: &mut ParseBuffer<'_>) -> Parsed<Option<TypeParts>>
+    ensures follows { (ts : Stream) → (a : Syntax) → (v : Syntax) → Follows IsSyntax (λ p. Node (Case rules.foreign_type (foreign_type_of a v p))) rules.kept_foreign_item ts (run_plan (foreign_type_or_kept a v) rules.kept_foreign_item ts input.old) result input.new }
+{
     let head = type_head(input)?;
     if input.peek::<Colon>() {
         return Ok(None);
@@ -190,28 +206,26 @@ fn foreign_type(
         return Ok(None);
     }
     let semi_token = input.read()?;
-    Ok(Some(ForeignItem::Ty(whole_type(attrs, vis, head, clause, semi_token))))
+    Ok(Some(TypeParts {
+        head,
+        clause,
+        semi_token,
+    }))
 }
 
 /// A foreign type of these parts.
-fn whole_type(
-    attrs: Vec<Attribute>,
-    vis: Visibility,
-    head: (token::Type, Ident, Generics),
-    clause: Option<WhereClause>,
-    semi_token: Semi,
-) -> ForeignItemType
-    ensures { result ≡ Both (attributes_syntax attrs.items) (Both (syntax_of_Visibility vis) (Both (Unshown Nothing) (Both (type_syntax head.0) (Both (syntax_of_ident head.1) (Both (first head.2) (Both (where_part clause) (semi_syntax semi_token))))))) }
+fn whole_type(attrs: Vec<Attribute>, vis: Visibility, parts: TypeParts) -> ForeignItemType
+    ensures { result ≡ foreign_type_of (attributes_syntax attrs.items) (syntax_of_Visibility vis) parts }
 {
-    let (type_token, ident, generics) = head;
+    let (type_token, ident, generics) = parts.head;
     ForeignItemType {
         attrs,
         vis,
         modifiers: TypeModifiers::default(),
         type_token,
         ident,
-        generics: generics.with_where(clause),
-        semi_token,
+        generics: generics.with_where(parts.clause),
+        semi_token: parts.semi_token,
     }
 }
 
@@ -310,8 +324,12 @@ impl Read for ForeignItemType {
         let generics = Generics::read_params(input)?;
         let clause = where_clause(input)?;
         let semi_token = input.read()?;
-        let head = (type_token, ident, generics);
-        Ok(whole_type(attrs, vis, head, clause, semi_token))
+        let parts = TypeParts {
+            head: (type_token, ident, generics),
+            clause,
+            semi_token,
+        };
+        Ok(whole_type(attrs, vis, parts))
     }
 }
 

@@ -1,7 +1,7 @@
 //! Parsers of the members of impls.
 ghost use Rattle.std.specs.Prelude.{◌≡◌, IfOk};
 ghost use Rattle.syn_grammar.specs.Rules as rules;
-ghost use Rattle.syn_grammar.specs.Grammar.{Both};
+ghost use Rattle.syn_grammar.specs.Grammar.{Syntax, Both, Node, Case};
 ghost use Rattle.syn_grammar.specs.MemberPlans as plan;
 ghost use Rattle.syn_grammar.specs.Plan.{run_plan};
 ghost use Rattle.syn_grammar.specs.Run.{wrap};
@@ -11,7 +11,7 @@ ghost use Rattle.syn_lower.specs.Parsing.{of, rule, meaning_of_rule, parse_rule,
 ghost use Rattle.syn_tokens.specs.Kinds.{default_syntax};
 ghost use Rattle.syn_tokens.specs.Leaves.{maybe};
 ghost use Rattle.syn_tree.specs.Restriction.{syntax_of_Visibility};
-ghost use Rattle.syn_item.specs.ImplForms.{const_head_form, const_head_syntax, const_rest_of, impl_function_of, member_marks_form, member_marks_syntax, type_head_syntax, type_rest_form, type_rest_of};
+ghost use Rattle.syn_item.specs.ImplForms.{const_head_form, const_head_syntax, const_rest_of, impl_const_of, impl_function_of, member_marks_form, member_marks_syntax, type_end_syntax, type_head_syntax, type_rest_form, type_rest_of};
 ghost use Rattle.syn_item.specs.Impls.{syntax_of_ImplItem};
 ghost use Rattle.syn_item.specs.ItemForms.{value_form};
 ghost use Rattle.syn_item.specs.NextWords.{constant_next, impl_macro_next};
@@ -21,11 +21,13 @@ ghost use Rattle.syn_item.specs.Stages.{impl_const_or_kept, impl_item_plan_after
 use super::{ImplItem, ImplItemConst, ImplItemFn, ImplItemMacro, ImplItemType};
 use crate::bodies::body;
 use crate::names::{OrUnderscore, name_or};
-use crate::pieces::{at_function, kept_tokens, member_macro, type_head};
+use crate::pieces::{
+    ValueParts, at_function, clause_end, kept_tokens, member_macro, type_head, value_or_kept,
+};
 use crate::sig::Signature;
+use std::alloc::Global;
 use syn_lower::attr::outer_attributes;
-use syn_lower::where_clause::where_clause;
-use syn_lower::{Attribute, Generics};
+use syn_lower::{Attribute, Generics, Type, WhereClause};
 use syn_parse::buffer::ParseBuffer;
 use syn_parse::read::Read;
 use syn_parse::read::refusal::Parsed;
@@ -34,7 +36,7 @@ use syn_recognize::item_looks::{at_no_macro_item, is_before_macro};
 use syn_recognize::looks::at_empty_group;
 use syn_tokens::ident::Ident;
 use syn_tokens::token;
-use syn_tokens::token::{Const, Default, Eq, Lt, Pub, Semi};
+use syn_tokens::token::{Colon, Const, Default, Eq, Lt, Pub, Semi};
 use syn_tree::item::{ConstModifiers, FnModifiers, TypeModifiers};
 use syn_tree::restriction::Visibility;
 
@@ -177,9 +179,30 @@ fn impl_type(marks: MemberMarks, input: &mut ParseBuffer<'_>) -> Parsed<Option<I
 
 /// A constant of an impl, after its `default`; `None` where it is kept verbatim: with generics, without a value or with a where
 /// clause.
-#[tactic(auto, using(crate::proofs::ImplPlans::generics_kept, crate::proofs::ImplPlans::value_kept, crate::proofs::ImplPlans::clause_kept), unfolding(syn_grammar::specs::MemberPlans::impl_const_plan))]
 fn impl_const(marks: MemberMarks, input: &mut ParseBuffer<'_>) -> Parsed<Option<ImplItem>>
     ensures follows { (ts : Stream) → Follows IsSyntax syntax_of_ImplItem rules.kept_impl_item ts (run_plan (impl_const_or_kept (attributes_syntax marks.attrs.items) (syntax_of_Visibility marks.vis) (maybe default_syntax marks.defaultness)) rules.kept_impl_item ts input.old) result input.new }
+{
+    match const_parts(input) {
+        Ok(Some(parts)) => Ok(Some(ImplItem::Const(whole_const(marks, parts, input.alloc())))),
+        Ok(None) => Ok(None),
+        Err(refusal) => Err(refusal),
+    }
+}
+
+/// A constant of an impl, without what is before its word.
+#[derive(Drop)]
+struct ConstParts {
+    const_token: Const,
+    ident: Ident,
+    colon_token: Colon,
+    ty: Type,
+    value: ValueParts,
+}
+
+/// A constant of an impl, from `const` on; `None` where it is kept verbatim. It owns nothing that is before its word.
+#[tactic(auto, unfolding(syn_grammar::specs::MemberPlans::impl_const_plan))]
+fn const_parts(input: &mut ParseBuffer<'_>) -> Parsed<Option<ConstParts>>
+    ensures follows { (ts : Stream) → (a : Syntax) → (v : Syntax) → (d : Syntax) → Follows IsSyntax (λ p. Node (Case rules.impl_const (impl_const_of a v d p))) rules.kept_impl_item ts (run_plan (impl_const_or_kept a v d) rules.kept_impl_item ts input.old) result input.new }
 {
     let const_token = input.read()?;
     let ident = name_or::<OrUnderscore>(input)?;
@@ -188,29 +211,38 @@ fn impl_const(marks: MemberMarks, input: &mut ParseBuffer<'_>) -> Parsed<Option<
     }
     let colon_token = input.read()?;
     let ty = input.read()?;
-    if !input.peek::<Eq>() {
-        return Ok(None);
+    match value_or_kept(input) {
+        Ok(Some(value)) => Ok(Some(ConstParts {
+            const_token,
+            ident,
+            colon_token,
+            ty,
+            value,
+        })),
+        Ok(None) => Ok(None),
+        Err(refusal) => Err(refusal),
     }
-    let eq_token = input.read()?;
-    let expr = input.read()?;
-    if !input.peek::<Semi>() {
-        return Ok(None);
-    }
-    Ok(Some(ImplItem::Const(ImplItemConst {
+}
+
+/// A constant of an impl of these parts.
+fn whole_const(marks: MemberMarks, parts: ConstParts, alloc: Global) -> ImplItemConst
+    ensures { result ≡ impl_const_of (attributes_syntax marks.attrs.items) (syntax_of_Visibility marks.vis) (maybe default_syntax marks.defaultness) parts }
+{
+    ImplItemConst {
         attrs: marks.attrs,
         vis: marks.vis,
         modifiers: ConstModifiers {
             defaultness: marks.defaultness,
         },
-        const_token,
-        ident,
-        generics: Generics::empty(input.alloc()),
-        colon_token,
-        ty,
-        eq_token,
-        expr,
-        semi_token: input.read()?,
-    })))
+        const_token: parts.const_token,
+        ident: parts.ident,
+        generics: Generics::empty(alloc),
+        colon_token: parts.colon_token,
+        ty: parts.ty,
+        eq_token: parts.value.eq_token,
+        expr: parts.value.expr,
+        semi_token: parts.value.semi_token,
+    }
 }
 
 /// `const`, and a name or `_`.
@@ -299,11 +331,45 @@ fn impl_type_rest(
     ensures reads { Computes IsSyntax itself (wrap (type_rest_of (member_marks_syntax marks) (type_head_syntax head)) (parse_form type_rest_form input.old)) result input.new }
     ensures moved { Moved input.old result input.new }
 {
-    let (type_token, ident, generics) = head;
+    let end = type_end(input)?;
+    Ok(whole_type(marks, head, end))
+}
+
+/// What follows the generics of a type of an impl.
+#[derive(Drop)]
+struct TypeEnd {
+    eq_token: Eq,
+    ty: Type,
+    where_clause: Option<WhereClause>,
+    semi_token: Semi,
+}
+
+/// `=`, a type, a where clause and `;`.
+fn type_end(input: &mut ParseBuffer<'_>) -> Parsed<TypeEnd>
+    ensures reads { Computes IsSyntax type_end_syntax (parse_form type_rest_form input.old) result input.new }
+    ensures moved { Moved input.old result input.new }
+{
     let eq_token = input.read()?;
     let ty = input.read()?;
-    let where_clause = where_clause(input)?;
-    Ok(ImplItemType {
+    let (where_clause, semi_token) = clause_end(input)?;
+    Ok(TypeEnd {
+        eq_token,
+        ty,
+        where_clause,
+        semi_token,
+    })
+}
+
+/// A type of an impl of these parts.
+fn whole_type(
+    marks: MemberMarks,
+    head: (token::Type, Ident, Generics),
+    end: TypeEnd,
+) -> ImplItemType
+    ensures made { result ≡ type_rest_of (member_marks_syntax marks) (type_head_syntax head) (type_end_syntax end) }
+{
+    let (type_token, ident, generics) = head;
+    ImplItemType {
         attrs: marks.attrs,
         vis: marks.vis,
         modifiers: TypeModifiers {
@@ -311,11 +377,11 @@ fn impl_type_rest(
         },
         type_token,
         ident,
-        generics: generics.with_where(where_clause),
-        eq_token,
-        ty,
-        semi_token: input.read()?,
-    })
+        generics: generics.with_where(end.where_clause),
+        eq_token: end.eq_token,
+        ty: end.ty,
+        semi_token: end.semi_token,
+    }
 }
 
 /// Attributes, and a macro of any path.

@@ -4,17 +4,15 @@ ghost use Rattle.syn_grammar.specs.Rules as rules;
 ghost use Rattle.syn_grammar.specs.Table as table;
 ghost use Rattle.syn_grammar.specs.Tokens as grammar;
 ghost use Rattle.syn_grammar.specs.Tokens.{at_word};
-ghost use Rattle.syn_grammar.specs.Grammar.{Both, Node, rule, word as word_kind};
+ghost use Rattle.syn_grammar.specs.Grammar.{rule, word as word_kind};
 ghost use Rattle.syn_grammar.specs.Run.{wrap};
 ghost use Rattle.syn_grammar.specs.Take.{left};
 ghost use Rattle.syn_parse.specs.Form.{by};
 ghost use Rattle.syn_tokens.specs.Faults.{expected};
 ghost use Rattle.syn_grammar.specs.Words.{w_extern};
-ghost use Rattle.syn_tokens.specs.Kinds.{fn_syntax};
-ghost use Rattle.syn_tokens.specs.Leaves.{maybe, syntax_of_ident, syntax_of_literal, syntax_of_word};
-ghost use Rattle.syn_lower.specs.Parts.{first};
+ghost use Rattle.syn_tokens.specs.Leaves.{maybe, syntax_of_literal, syntax_of_word};
 ghost use Rattle.syn_lower.specs.Parsing.{inside, of, meaning_of_rule, parse_form, parse_rule, sees, take_token, Computes, Kept, Moved, Parses, Outcome, itself, IsSyntax, IsSyntaxError};
-ghost use Rattle.syn_item.specs.SignatureForms.{after_qualifiers, end_form, end_syntax, parameters_syntax, qualifiers_syntax, string_form};
+ghost use Rattle.syn_item.specs.SignatureForms.{after_qualifiers, end_form, end_syntax, named_function_form, named_function_syntax, parameters_syntax, qualifiers_syntax, signature_parts_syntax, string_form};
 ghost use Rattle.syn_item.specs.Signatures.{syntax_of_Safety};
 
 use crate::sig::parameters::{ParameterList, parameters};
@@ -76,7 +74,6 @@ pub fn foreign_signature(input: &mut ParseBuffer<'_>) -> Parsed<Signature>
 }
 
 /// A signature after what is before its `fn`.
-#[tactic(auto, using(syn_grammar::proofs::Each::signature_rest_is))]
 pub(crate) fn signature_rest(
     qualifiers: Qualifiers,
     input: &mut ParseBuffer<'_>,
@@ -84,27 +81,49 @@ pub(crate) fn signature_rest(
     ensures reads { Computes IsSyntax itself (wrap (after_qualifiers (qualifiers_syntax qualifiers)) (parse_rule rules.signature_rest input.old)) result input.new }
     ensures moved { Moved input.old result input.new }
 {
-    let fn_token = input.read()?;
-    let ident = input.read()?;
-    let generics = Generics::read_params(input)?;
-    let parameters = in_parentheses(input)?;
-    let (output, where_clause) = signature_end(input)?;
-    let named = (fn_token, ident, generics);
-    Ok(signature_of(qualifiers, named, parameters, (output, where_clause)))
+    let parts = signature_parts(input)?;
+    Ok(signature_of(qualifiers, parts))
 }
 
-/// A signature of its parts.
-fn signature_of(
-    qualifiers: Qualifiers,
+/// A signature without what is before its `fn`.
+#[derive(Drop)]
+struct SignatureParts {
     named: (Fn, Ident, Generics),
     parameters: (Paren, ParameterList),
     end: (ReturnType, Option<WhereClause>),
-) -> Signature
-    ensures made { result ≡ after_qualifiers (qualifiers_syntax qualifiers) (Node (Both (fn_syntax named.0) (Both (syntax_of_ident named.1) (Both (first named.2) (Both (parameters_syntax parameters) (end_syntax end)))))) }
+}
+
+/// `fn`, a name, generics, parameters in parentheses, a return type and a where clause.
+#[tactic(auto, using(syn_grammar::proofs::Each::signature_rest_is))]
+fn signature_parts(input: &mut ParseBuffer<'_>) -> Parsed<SignatureParts>
+    ensures reads { Computes IsSyntax signature_parts_syntax (parse_rule rules.signature_rest input.old) result input.new }
+    ensures moved { Moved input.old result input.new }
 {
-    let (fn_token, ident, generics) = named;
-    let (paren_token, parameters) = parameters;
-    let (output, where_clause) = end;
+    let named = named_function(input)?;
+    let parameters = in_parentheses(input)?;
+    let end = signature_end(input)?;
+    Ok(SignatureParts {
+        named,
+        parameters,
+        end,
+    })
+}
+
+/// `fn`, a name and generics.
+fn named_function(input: &mut ParseBuffer<'_>) -> Parsed<(Fn, Ident, Generics)>
+    ensures reads { Computes IsSyntax named_function_syntax (parse_form named_function_form input.old) result input.new }
+    ensures moved { Moved input.old result input.new }
+{
+    Ok((input.read()?, input.read()?, Generics::read_params(input)?))
+}
+
+/// A signature of its parts.
+fn signature_of(qualifiers: Qualifiers, parts: SignatureParts) -> Signature
+    ensures made { result ≡ after_qualifiers (qualifiers_syntax qualifiers) (signature_parts_syntax parts) }
+{
+    let (fn_token, ident, generics) = parts.named;
+    let (paren_token, parameters) = parts.parameters;
+    let (output, where_clause) = parts.end;
     Signature {
         constness: qualifiers.constness,
         asyncness: qualifiers.asyncness,

@@ -1,7 +1,7 @@
 //! Parsers of traits and their members.
 ghost use Rattle.std.specs.Prelude.{◌≡◌};
 ghost use Rattle.syn_grammar.specs.Rules as rules;
-ghost use Rattle.syn_grammar.specs.Grammar.{Both};
+ghost use Rattle.syn_grammar.specs.Grammar.{Syntax, Both, Node, Case};
 ghost use Rattle.syn_grammar.specs.Plan.{run_plan};
 ghost use Rattle.syn_grammar.specs.Run.{wrap};
 ghost use Rattle.syn_grammar.specs.Tokens.{Stream};
@@ -16,20 +16,21 @@ ghost use Rattle.syn_item.specs.NextWords.{marked_next};
 ghost use Rattle.syn_item.specs.Planned.{Follows};
 ghost use Rattle.syn_item.specs.Simple.{attributes_by_content};
 ghost use Rattle.syn_item.specs.Stages.{trait_const_or_kept, trait_item_plan_after};
-ghost use Rattle.syn_item.specs.TraitForms.{after_head, after_marks, function_end_form, named_form, named_syntax, trait_end_form, trait_function_of, unmarked_form};
+ghost use Rattle.syn_item.specs.TraitForms.{after_head, after_marks, function_end_form, named_form, named_syntax, trait_const_of, trait_end_form, trait_function_of, type_end_form, type_end_syntax, type_parts_syntax, unmarked_form};
 ghost use Rattle.syn_item.specs.Traits.{function_end, syntax_of_TraitItem};
 
 use super::{ItemTrait, TraitItem, TraitItemConst, TraitItemFn, TraitItemMacro, TraitItemType};
 use crate::bodies::body;
 use crate::names::{OrUnderscore, name_or};
 use crate::pieces::{
-    after_equals, at_function, braced, colon_and_supertraits, colon_and_type_bounds, kept_tokens,
-    member_macro,
+    DefaultParts, after_equals, at_function, braced, clause_end, colon_and_supertraits,
+    colon_and_type_bounds, default_or_kept, kept_tokens, member_macro, type_head,
 };
 use crate::sig::Signature;
+use std::alloc::Global;
 use syn_lower::attr::outer_attributes;
 use syn_lower::where_clause::where_clause;
-use syn_lower::{Attribute, Generics};
+use syn_lower::{Attribute, Generics, Type, TypeParamBound, WhereClause};
 use syn_parse::buffer::ParseBuffer;
 use syn_parse::read::Read;
 use syn_parse::read::refusal::Parsed;
@@ -37,8 +38,11 @@ use syn_recognize::Rule;
 use syn_recognize::deferred::DeferredBlock;
 use syn_recognize::looks::at_empty_group;
 use syn_tokens::ident::Ident;
+use syn_tokens::punctuated::Punctuated;
 use syn_tokens::token;
-use syn_tokens::token::{Auto, Const, Default, Lt, Pub, SelfType, Semi, Trait, Unsafe};
+use syn_tokens::token::{
+    Auto, Colon, Const, Default, Eq, Lt, Plus, Pub, SelfType, Semi, Trait, Unsafe,
+};
 use syn_tree::item::{ConstModifiers, FnModifiers, TraitModifiers, TypeModifiers};
 use syn_tree::restriction::Visibility;
 
@@ -219,9 +223,30 @@ fn at_marked(input: &ParseBuffer<'_>) -> bool
 }
 
 /// A constant of a trait, after its attributes; `None` where it is kept verbatim: with generics or with a where clause.
-#[tactic(auto, using(crate::proofs::TraitPlans::generics_kept, crate::proofs::TraitPlans::clause_kept), unfolding(syn_grammar::specs::MemberPlans::trait_const_plan))]
 fn trait_const(attrs: Vec<Attribute>, input: &mut ParseBuffer<'_>) -> Parsed<Option<TraitItem>>
     ensures follows { (ts : Stream) → Follows IsSyntax syntax_of_TraitItem rules.kept_trait_item ts (run_plan (trait_const_or_kept (attributes_syntax attrs.items)) rules.kept_trait_item ts input.old) result input.new }
+{
+    match const_parts(input) {
+        Ok(Some(parts)) => Ok(Some(TraitItem::Const(whole_const(attrs, parts, input.alloc())))),
+        Ok(None) => Ok(None),
+        Err(refusal) => Err(refusal),
+    }
+}
+
+/// A constant of a trait, without its attributes.
+#[derive(Drop)]
+struct ConstParts {
+    const_token: Const,
+    ident: Ident,
+    colon_token: Colon,
+    ty: Type,
+    value: DefaultParts,
+}
+
+/// A constant of a trait, from `const` on; `None` where it is kept verbatim. It owns nothing that is before its word.
+#[tactic(auto, unfolding(syn_grammar::specs::MemberPlans::trait_const_plan))]
+fn const_parts(input: &mut ParseBuffer<'_>) -> Parsed<Option<ConstParts>>
+    ensures follows { (ts : Stream) → (a : Syntax) → Follows IsSyntax (λ p. Node (Case rules.trait_const (trait_const_of a p))) rules.kept_trait_item ts (run_plan (trait_const_or_kept a) rules.kept_trait_item ts input.old) result input.new }
 {
     let const_token = input.read()?;
     let ident = name_or::<OrUnderscore>(input)?;
@@ -230,21 +255,34 @@ fn trait_const(attrs: Vec<Attribute>, input: &mut ParseBuffer<'_>) -> Parsed<Opt
     }
     let colon_token = input.read()?;
     let ty = input.read()?;
-    let default = after_equals(input)?;
-    if !input.peek::<Semi>() {
-        return Ok(None);
+    match default_or_kept(input) {
+        Ok(Some(value)) => Ok(Some(ConstParts {
+            const_token,
+            ident,
+            colon_token,
+            ty,
+            value,
+        })),
+        Ok(None) => Ok(None),
+        Err(refusal) => Err(refusal),
     }
-    Ok(Some(TraitItem::Const(TraitItemConst {
+}
+
+/// A constant of a trait of these parts.
+fn whole_const(attrs: Vec<Attribute>, parts: ConstParts, alloc: Global) -> TraitItemConst
+    ensures { result ≡ trait_const_of (attributes_syntax attrs.items) parts }
+{
+    TraitItemConst {
         attrs,
         modifiers: ConstModifiers::default(),
-        const_token,
-        ident,
-        generics: Generics::empty(input.alloc()),
-        colon_token,
-        ty,
-        default,
-        semi_token: input.read()?,
-    })))
+        const_token: parts.const_token,
+        ident: parts.ident,
+        generics: Generics::empty(alloc),
+        colon_token: parts.colon_token,
+        ty: parts.ty,
+        default: parts.value.default,
+        semi_token: parts.value.semi_token,
+    }
 }
 
 /// Attributes, `const`, a name or `_`, `:`, a type, perhaps a value after `=`, and `;`.
@@ -343,28 +381,74 @@ impl Read for TraitItemType {
 }
 
 /// A type of a trait, after its attributes.
-#[tactic(auto, using(syn_grammar::proofs::Each::bare_trait_type_is))]
 fn trait_type(attrs: Vec<Attribute>, input: &mut ParseBuffer<'_>) -> Parsed<TraitItemType>
     ensures reads { Computes IsSyntax itself (wrap (Both (attributes_syntax attrs.items)) (parse_rule rules.bare_trait_type input.old)) result input.new }
     ensures moved { Moved input.old result input.new }
 {
-    let type_token = input.read()?;
-    let ident = input.read()?;
-    let generics = Generics::read_params(input)?;
-    let (colon_token, bounds) = colon_and_type_bounds(input)?;
+    let parts = type_parts(input)?;
+    Ok(whole_type(attrs, parts))
+}
+
+/// A type of a trait, without its attributes.
+#[derive(Drop)]
+struct TypeParts {
+    head: (token::Type, Ident, Generics),
+    end: TypeEnd,
+}
+
+/// `type`, a name, generics, bounds after a colon, perhaps a type after `=`, a where clause and `;`.
+#[tactic(auto, using(syn_grammar::proofs::Each::bare_trait_type_is))]
+fn type_parts(input: &mut ParseBuffer<'_>) -> Parsed<TypeParts>
+    ensures reads { Computes IsSyntax type_parts_syntax (parse_rule rules.bare_trait_type input.old) result input.new }
+    ensures moved { Moved input.old result input.new }
+{
+    let head = type_head(input)?;
+    let end = type_end(input)?;
+    Ok(TypeParts { head, end })
+}
+
+/// What follows the generics of a type of a trait.
+#[derive(Drop)]
+struct TypeEnd {
+    bounds: (Option<Colon>, Punctuated<TypeParamBound, Plus>),
+    default: Option<(Eq, Type)>,
+    where_clause: Option<WhereClause>,
+    semi_token: Semi,
+}
+
+/// Bounds after a colon, perhaps a type after `=`, a where clause and `;`.
+fn type_end(input: &mut ParseBuffer<'_>) -> Parsed<TypeEnd>
+    ensures reads { Computes IsSyntax type_end_syntax (parse_form type_end_form input.old) result input.new }
+    ensures moved { Moved input.old result input.new }
+{
+    let bounds = colon_and_type_bounds(input)?;
     let default = after_equals(input)?;
-    let where_clause = where_clause(input)?;
-    Ok(TraitItemType {
+    let (where_clause, semi_token) = clause_end(input)?;
+    Ok(TypeEnd {
+        bounds,
+        default,
+        where_clause,
+        semi_token,
+    })
+}
+
+/// A type of a trait of these parts.
+fn whole_type(attrs: Vec<Attribute>, parts: TypeParts) -> TraitItemType
+    ensures { result ≡ Both (attributes_syntax attrs.items) (type_parts_syntax parts) }
+{
+    let (type_token, ident, generics) = parts.head;
+    let (colon_token, bounds) = parts.end.bounds;
+    TraitItemType {
         attrs,
         modifiers: TypeModifiers::default(),
         type_token,
         ident,
-        generics: generics.with_where(where_clause),
+        generics: generics.with_where(parts.end.where_clause),
         colon_token,
         bounds,
-        default,
-        semi_token: input.read()?,
-    })
+        default: parts.end.default,
+        semi_token: parts.end.semi_token,
+    }
 }
 
 /// Attributes, and a macro of any path.

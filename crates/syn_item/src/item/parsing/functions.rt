@@ -1,6 +1,6 @@
 //! Items that begin with a word that a signature may begin with: functions, and what else begins with `const`, `unsafe` or `extern`.
 ghost use Rattle.std.specs.Prelude.{◌≡◌, true};
-ghost use Rattle.syn_grammar.specs.Grammar.{◌&◌, Both};
+ghost use Rattle.syn_grammar.specs.Grammar.{◌&◌, Syntax, Both, Node, Case};
 ghost use Rattle.syn_grammar.specs.ItemPlan as plan;
 ghost use Rattle.syn_grammar.specs.Plan.{run_plan};
 ghost use Rattle.syn_grammar.specs.Promises.{OrMemory};
@@ -15,6 +15,7 @@ ghost use Rattle.syn_parse.specs.Peeks.{past};
 ghost use Rattle.syn_tokens.specs.Kinds.{const_syntax, unsafe_syntax};
 ghost use Rattle.syn_tokens.specs.Leaves.{maybe};
 ghost use Rattle.syn_tree.specs.Restriction.{syntax_of_Visibility};
+ghost use Rattle.syn_item.specs.ItemForms.{const_of};
 ghost use Rattle.syn_item.specs.Items.{syntax_of_Item};
 ghost use Rattle.syn_item.specs.ItemStages.{const_stage, extern_stage, function_stage, module_or_function_stage, place_of, unsafe_stage};
 ghost use Rattle.syn_item.specs.ItemTurns.{const_or_kept_turn, module_next, no_visibility};
@@ -27,13 +28,16 @@ use crate::foreign::foreign_module_rest;
 use crate::function::function;
 use crate::item::Item;
 use crate::names::{OrUnderscore, name_or};
+use crate::pieces::{ValueParts, value_or_kept};
 use crate::sig::Abi;
 use crate::simple::{ItemConst, extern_crate, module};
-use syn_lower::Generics;
+use std::alloc::Global;
+use syn_lower::{Generics, Type};
 use syn_parse::buffer::ParseBuffer;
 use syn_parse::read::refusal::{Parsed, Refusal};
+use syn_tokens::ident::Ident;
 use syn_tokens::token::{
-    Async, Auto, Brace, Const, Crate, Eq, Extern, Fn, Impl, Lt, Mod, Semi, Trait, Unsafe,
+    Async, Auto, Brace, Colon, Const, Crate, Extern, Fn, Impl, Lt, Mod, Semi, Trait, Unsafe,
 };
 use syn_tree::item::ConstModifiers;
 
@@ -230,9 +234,30 @@ fn const_impl(
 }
 
 /// A constant; `None` where it is kept verbatim: with generics, with a where clause or without a value.
-#[tactic(auto, unfolding(syn_grammar::specs::ItemPlan::const_plan))]
 fn const_or_kept(begun: Begun, input: &mut ParseBuffer<'_>) -> Parsed<Option<Item>>
     ensures follows { (ts : Stream) → Follows IsSyntax syntax_of_Item rules.kept_item ts (run_plan (const_or_kept_turn (attributes_syntax begun.attrs.items) (syntax_of_Visibility begun.vis)) rules.kept_item ts input.old) result input.new }
+{
+    match const_parts(input) {
+        Ok(Some(parts)) => Ok(Some(Item::Const(whole_const(begun, parts, input.alloc())))),
+        Ok(None) => Ok(None),
+        Err(refusal) => Err(refusal),
+    }
+}
+
+/// A constant without its attributes and its visibility.
+#[derive(Drop)]
+struct ConstParts {
+    const_token: Const,
+    ident: Ident,
+    colon_token: Colon,
+    ty: Box<Type>,
+    value: ValueParts,
+}
+
+/// A constant, from `const` on; `None` where it is kept verbatim. It owns nothing that is before its word.
+#[tactic(auto, unfolding(syn_grammar::specs::ItemPlan::const_plan))]
+fn const_parts(input: &mut ParseBuffer<'_>) -> Parsed<Option<ConstParts>>
+    ensures follows { (ts : Stream) → (a : Syntax) → (v : Syntax) → Follows IsSyntax (λ p. Node (Case rules.const_item (const_of a v p))) rules.kept_item ts (run_plan (const_or_kept_turn a v) rules.kept_item ts input.old) result input.new }
 {
     let const_token = input.read()?;
     let ident = name_or::<OrUnderscore>(input)?;
@@ -241,26 +266,34 @@ fn const_or_kept(begun: Begun, input: &mut ParseBuffer<'_>) -> Parsed<Option<Ite
     }
     let colon_token = input.read()?;
     let ty = input.read()?;
-    if !input.peek::<Eq>() {
-        return Ok(None);
+    match value_or_kept(input) {
+        Ok(Some(value)) => Ok(Some(ConstParts {
+            const_token,
+            ident,
+            colon_token,
+            ty,
+            value,
+        })),
+        Ok(None) => Ok(None),
+        Err(refusal) => Err(refusal),
     }
-    let eq_token = input.read()?;
-    let expr = input.read()?;
-    if !input.peek::<Semi>() {
-        return Ok(None);
-    }
-    let semi_token = input.read()?;
-    Ok(Some(Item::Const(ItemConst {
+}
+
+/// A constant of these parts.
+fn whole_const(begun: Begun, parts: ConstParts, alloc: Global) -> ItemConst
+    ensures { result ≡ const_of (attributes_syntax begun.attrs.items) (syntax_of_Visibility begun.vis) parts }
+{
+    ItemConst {
         attrs: begun.attrs,
         vis: begun.vis,
         modifiers: ConstModifiers::default(),
-        const_token,
-        ident,
-        generics: Generics::empty(input.alloc()),
-        colon_token,
-        ty,
-        eq_token,
-        expr,
-        semi_token,
-    })))
+        const_token: parts.const_token,
+        ident: parts.ident,
+        generics: Generics::empty(alloc),
+        colon_token: parts.colon_token,
+        ty: parts.ty,
+        eq_token: parts.value.eq_token,
+        expr: parts.value.expr,
+        semi_token: parts.value.semi_token,
+    }
 }

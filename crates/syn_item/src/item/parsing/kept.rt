@@ -1,6 +1,7 @@
 //! Type aliases, statics and uses among items, some of which are kept verbatim.
 ghost use Rattle.std.specs.Prelude.{◌≡◌, true};
 ghost use Rattle.syn_grammar.specs.ItemPlan as plan;
+ghost use Rattle.syn_grammar.specs.Grammar.{Syntax, Node, Case};
 ghost use Rattle.syn_grammar.specs.Plan.{run_plan};
 ghost use Rattle.syn_grammar.specs.Promises.{OrMemory};
 ghost use Rattle.syn_grammar.specs.Rules as rules;
@@ -11,19 +12,23 @@ ghost use Rattle.syn_grammar.specs.Words.{w_use};
 ghost use Rattle.syn_lower.specs.Attributes.{attributes_syntax};
 ghost use Rattle.syn_lower.specs.Parsing.{IsSyntax};
 ghost use Rattle.syn_tree.specs.Restriction.{syntax_of_Visibility};
+ghost use Rattle.syn_item.specs.ItemForms.{static_of};
 ghost use Rattle.syn_item.specs.Items.{syntax_of_Item};
 ghost use Rattle.syn_item.specs.NextWords.{equals_ahead, IsRootedGroup};
 ghost use Rattle.syn_item.specs.Planned.{Follows, IsRead};
+ghost use Rattle.syn_item.specs.Valued.{static_valued, value_syntax};
 
 use super::Begun;
 use crate::item::Item;
-use crate::pieces::type_head;
-use crate::simple::{ItemStatic, static_mutability, type_after_head};
+use crate::pieces::{ValueParts, type_head};
+use crate::simple::{ItemStatic, StaticMutability, static_mutability, type_after_head};
 use crate::use_tree::use_item;
+use syn_lower::Type;
 use syn_parse::buffer::ParseBuffer;
 use syn_parse::read::refusal::{Parsed, Refusal};
 use syn_recognize::{Rule, read_by};
-use syn_tokens::token::{Brace, Colon, Eq};
+use syn_tokens::ident::Ident;
+use syn_tokens::token::{Brace, Colon, Eq, Static};
 
 /// A type alias; `None` where it is kept verbatim: with a colon after its generics, or without `=` after these and a where clause.
 /// Where a clause is before the `=` and after the type, what follows the second one is refused.
@@ -58,9 +63,31 @@ fn is_alias(input: &ParseBuffer<'_>) -> Parsed<bool>
 }
 
 /// A static; `None` where it is kept verbatim: without a type, or without a value.
-#[tactic(auto, unfolding(syn_grammar::specs::ItemPlan::static_plan))]
 pub(super) fn static_or_kept(begun: Begun, input: &mut ParseBuffer<'_>) -> Parsed<Option<Item>>
     ensures follows { (ts : Stream) → Follows IsSyntax syntax_of_Item rules.kept_item ts (run_plan (plan.static_plan (attributes_syntax begun.attrs.items) (syntax_of_Visibility begun.vis)) rules.kept_item ts input.old) result input.new }
+{
+    match static_parts(input) {
+        Ok(Some(parts)) => Ok(Some(Item::Static(whole_static(begun, parts)))),
+        Ok(None) => Ok(None),
+        Err(refusal) => Err(refusal),
+    }
+}
+
+/// A static without its attributes and its visibility.
+#[derive(Drop)]
+struct StaticParts {
+    static_token: Static,
+    mutability: StaticMutability,
+    ident: Ident,
+    colon_token: Colon,
+    ty: Box<Type>,
+    value: ValueParts,
+}
+
+/// A static, from `static` on; `None` where it is kept verbatim. It owns nothing that is before its word.
+#[tactic(auto, unfolding(syn_grammar::specs::ItemPlan::static_plan))]
+fn static_parts(input: &mut ParseBuffer<'_>) -> Parsed<Option<StaticParts>>
+    ensures follows { (ts : Stream) → (a : Syntax) → (v : Syntax) → Follows IsSyntax (λ p. Node (Case rules.static_item (static_of a v p))) rules.kept_item ts (run_plan (plan.static_plan a v) rules.kept_item ts input.old) result input.new }
 {
     let static_token = input.read()?;
     let mutability = static_mutability(input);
@@ -70,24 +97,53 @@ pub(super) fn static_or_kept(begun: Begun, input: &mut ParseBuffer<'_>) -> Parse
     }
     let colon_token = input.read()?;
     let ty = input.read()?;
+    match static_value(input) {
+        Ok(Some(value)) => Ok(Some(StaticParts {
+            static_token,
+            mutability,
+            ident,
+            colon_token,
+            ty,
+            value,
+        })),
+        Ok(None) => Ok(None),
+        Err(refusal) => Err(refusal),
+    }
+}
+
+/// The value of a static, after its type; `None` where the static is kept verbatim: without a value.
+fn static_value(input: &mut ParseBuffer<'_>) -> Parsed<Option<ValueParts>>
+    ensures follows { (ts : Stream) → (f : Syntax → Syntax) → Follows IsSyntax (λ p. f (value_syntax p)) rules.kept_item ts (run_plan (static_valued f) rules.kept_item ts input.old) result input.new }
+{
     if !input.peek::<Eq>() {
         return Ok(None);
     }
     let eq_token = input.read()?;
     let expr = input.read()?;
     let semi_token = input.read()?;
-    Ok(Some(Item::Static(ItemStatic {
-        attrs: begun.attrs,
-        vis: begun.vis,
-        static_token,
-        mutability,
-        ident,
-        colon_token,
-        ty,
+    Ok(Some(ValueParts {
         eq_token,
         expr,
         semi_token,
-    })))
+    }))
+}
+
+/// A static of these parts.
+fn whole_static(begun: Begun, parts: StaticParts) -> ItemStatic
+    ensures { result ≡ static_of (attributes_syntax begun.attrs.items) (syntax_of_Visibility begun.vis) parts }
+{
+    ItemStatic {
+        attrs: begun.attrs,
+        vis: begun.vis,
+        static_token: parts.static_token,
+        mutability: parts.mutability,
+        ident: parts.ident,
+        colon_token: parts.colon_token,
+        ty: parts.ty,
+        eq_token: parts.value.eq_token,
+        expr: parts.value.expr,
+        semi_token: parts.value.semi_token,
+    }
 }
 
 /// A use; `None` where it is kept verbatim: of trees in braces of which one has `::` before it.
