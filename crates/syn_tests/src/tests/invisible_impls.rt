@@ -13,12 +13,27 @@ const FILES: &[(&str, &[&str])] = &[
     ("# [ < a > ] impl < A > for B { }", &["Impl"]),
     ("< impl < A > for B { } >", &["Impl"]),
     ("impl<T: < C > ,> < A > for B { }", &["Impl"]),
-    ("< pub > struct S; impl < A > for S { }", &["Struct", "Impl"]),
-    ("struct S { < pub > a: u8 } impl < A > for S { }", &["Struct", "Impl"]),
-    ("impl < A > for < B > { } < pub > fn f ( ) { } impl < C > for D { }", &["Impl", "Fn", "Impl"]),
+    (
+        "< pub > struct S; impl < A > for S { }",
+        &["Struct", "Impl"],
+    ),
+    (
+        "struct S { < pub > a: u8 } impl < A > for S { }",
+        &["Struct", "Impl"],
+    ),
+    (
+        "impl < A > for < B > { } < pub > fn f ( ) { } impl < C > for D { }",
+        &["Impl", "Fn", "Impl"],
+    ),
     ("# [ < a > ] mod m { impl < A > for B { } }", &["Mod"]),
-    ("< pub > struct S; m! { impl < A > for S { } }", &["Struct", "Macro"]),
-    ("< pub > struct S; impl < &A > for S { }", &["Struct", "Verbatim"]),
+    (
+        "< pub > struct S; m! { impl < A > for S { } }",
+        &["Struct", "Macro"],
+    ),
+    (
+        "< pub > struct S; impl < &A > for S { }",
+        &["Struct", "Verbatim"],
+    ),
 ];
 
 /// The name of the item's variant, of those that are above.

@@ -32,8 +32,19 @@ fn marks(rt: HostRuntime) {
         let statements: Stmts = value(&rt, parse2(tokens));
         assert_printed(&rt, alloc, statements, want);
     }
-    let joint = value(&rt, spaced(alloc, ("use a", "b;"), [':', ':'], Spacing::Joint));
-    assert_printed(&rt, alloc, value(&rt, parse2::<Item>(joint)), "use a :: b ;");
-    let apart = value(&rt, spaced(alloc, ("use a", "b;"), [':', ':'], Spacing::Alone));
+    let joint = value(
+        &rt,
+        spaced(alloc, ("use a", "b;"), [':', ':'], Spacing::Joint),
+    );
+    assert_printed(
+        &rt,
+        alloc,
+        value(&rt, parse2::<Item>(joint)),
+        "use a :: b ;",
+    );
+    let apart = value(
+        &rt,
+        spaced(alloc, ("use a", "b;"), [':', ':'], Spacing::Alone),
+    );
     assert!(rt; parse2::<Item>(apart).is_err());
 }
