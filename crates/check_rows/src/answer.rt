@@ -38,7 +38,7 @@ pub(crate) fn reported(
         Ok(text) => return Ok(text),
         Err(error) => error,
     };
-    if error.is_memory() {
+    if error.is_memory() || error.is_too_deep() {
         return Err(Failure::OutOfMemory);
     }
     let start = error.span().start;

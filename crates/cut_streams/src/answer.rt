@@ -31,7 +31,7 @@ pub(crate) fn answer_of<T: Parse + ToTokens + Drop>(
             None => return Ok(Answer::Accepted(token_text(&print)?)),
             Some(fault) => fault,
         },
-        Err(error) if error.is_memory() => return Ok(Answer::Memory),
+        Err(error) if error.is_memory() || error.is_too_deep() => return Ok(Answer::Memory),
         Err(_) => match fault_of_refusal::<T>(rule, tokens)? {
             None => return Ok(Answer::Refused),
             Some(fault) => fault,
@@ -114,7 +114,9 @@ fn fault_of_refusal<T: Parse + Drop>(
 fn read<T: Drop>(found: Result<T>) -> std::result::Result<Option<T>, Failure> {
     match found {
         Ok(value) => Ok(Some(value)),
-        Err(error) if error.is_memory() => Err(Failure::OutOfMemory),
+        Err(error) if error.is_memory() || error.is_too_deep() => {
+            Err(Failure::OutOfMemory)
+        }
         Err(_) => Ok(None),
     }
 }

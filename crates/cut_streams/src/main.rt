@@ -10,7 +10,7 @@
 //!
 //! - `ok` and the hex digits of the text that the tree prints as which the stream is read by `parse2`;
 //! - `refused`;
-//! - `memory`, where memory is refused to trees, as of what is nested too deep;
+//! - `memory`, where memory is refused to trees, or they are nested too deep;
 //! - `broken` and words: what doesn't hold of this stream, but holds of each. The print of an accepted stream is read again, and prints
 //!   itself. Where a stream is refused, a buffer stands where it stood, unless a tree stands at its front and something is left behind
 //!   it. And by recognition (`syn_answers`) the same streams are read, with the same prints, but

@@ -1,6 +1,6 @@
 -- The laws of the grammar, for a whole stream that was read and printed.
 use Rattle.std.proofs.Common.{◌≡◌, true, false, Some, None, sym, subst, ap, ◌∙◌, inl, inr}
-use Rattle.std.specs.Prelude.{Bool, IsTrue, ◌↔◌, List, Result, Ok, Err}
+use Rattle.std.specs.Prelude.{Bool, IsTrue, ◌↔◌, Result, Ok, Err}
 use Rattle.std.specs.Result.{IsErrAnd}
 use Rattle.syn_grammar.specs.Tokens.{Stream, end, plain, visible}
 use Rattle.syn_grammar.specs.Rules.{Rule}
@@ -10,16 +10,17 @@ use Rattle.syn_grammar.specs.Grows.{is_part, lift, unmoved}
 use Rattle.syn_grammar.specs.Laws.{Derives}
 use Rattle.syn_grammar.specs.Take.{only}
 use Rattle.syn_grammar.specs.Run.{parse_rule, value_of}
-use Rattle.syn_grammar.specs.Promises.{Refused}
+use Rattle.syn_grammar.specs.Promises.{Never, Refused}
 use Rattle.syn_grammar.proofs.Means.{means, parse_rule_found}
 use Rattle.syn_grammar.proofs.Takes.{end_found}
 use Rattle.syn_grammar.proofs.Proved.{one_tree, print_is_read, print_is_visible, normal_prints, same_form}
 use Rattle.syn_grammar.proofs.StillProved.{lift_keeps, still_derives}
 use Rattle.syn_grammar.proofs.PrintedValues.{print_value}
 use Rattle.syn_recognize.specs.DeferredTokens.{whole_only}
-use Rattle.syn_tokens.specs.Faults.{FaultValue, IsSyntaxError}
-use Rattle.syn_parse.specs.Refusals.{IsSyntax, IsRefusedAs}
+use Rattle.syn_tokens.specs.Faults.{ErrorValue, IsSyntaxError, IsTooDeepError}
+use Rattle.syn_parse.specs.Refusals.{IsSyntax, IsTooDeep, IsRefusedAs}
 use Rattle.syn_parse.specs.declared.read.refusal.Refusal.{Refusal}
+use Rattle.syn_parse.specs.declared.read.refusal.Refusal.TheVariants as R
 use Rattle.syn_parse.proofs.Refused.{refused_by_syntax}
 use Rattle.syn_answers.specs.Canonical.{IsCanonical, IsSameForm, CanonicalOutcome, SameFormOutcome, StillCanonical, WholeOutcome}
 use Rattle.syn_answers.specs.Whole.{IsWhole, IsWholePrint}
@@ -80,22 +81,32 @@ same_form_of k a b p q x h i y =
 
 -- REFUSALS
 
-pub canonical_err : (k : Rule) (ts : Stream) (r : Result Stream (List FaultValue)) (e : Refusal) → IsErrAnd r (λ f. IsRefusedAs e f) → (IsSyntax e → whole_only (parse_rule k ts) ≡ None) → CanonicalOutcome IsSyntaxError k ts r
+pub canonical_err : (k : Rule) (ts : Stream) (r : Result Stream ErrorValue) (e : Refusal) → IsErrAnd r (λ f. IsRefusedAs e f) → (IsSyntax e → whole_only (parse_rule k ts) ≡ None) → CanonicalOutcome IsSyntaxError k ts r
 canonical_err k ts (Ok p) e h n = absurd h
 canonical_err k ts (Err f) e h n = λ v s. refused_of k ts (n (refused_by_syntax e f h s))
 
-pub still_err : (k : Rule) (ts : Stream) (r : Result Stream (List FaultValue)) (e : Refusal) → IsErrAnd r (λ f. IsRefusedAs e f) → (IsSyntax e → whole_only (parse_rule k ts) ≡ None) → StillCanonical IsSyntaxError k ts r
+pub still_err : (k : Rule) (ts : Stream) (r : Result Stream ErrorValue) (e : Refusal) → IsErrAnd r (λ f. IsRefusedAs e f) → (IsSyntax e → whole_only (parse_rule k ts) ≡ None) → StillCanonical IsSyntaxError k ts r
 still_err k ts (Ok p) e h n = absurd h
 still_err k ts (Err f) e h n = λ s i b g. refused_of k ts (n (refused_by_syntax e f h g)) (lift s) (still_derives k ts s i b)
 
-pub derived_err : (k : Rule) (ts : Stream) (r : Result (Unit {0}) (List FaultValue)) (e : Refusal) → IsErrAnd r (λ f. IsRefusedAs e f) → (IsSyntax e → whole_only (parse_rule k ts) ≡ None) → WholeOutcome IsSyntaxError k ts r
+pub derived_err : (k : Rule) (ts : Stream) (r : Result (Unit {0}) ErrorValue) (e : Refusal) → IsErrAnd r (λ f. IsRefusedAs e f) → (IsSyntax e → whole_only (parse_rule k ts) ≡ None) → WholeOutcome IsSyntaxError k ts r
 derived_err k ts (Ok p) e h n = absurd h
 derived_err k ts (Err f) e h n = λ v s. refused_of k ts (n (refused_by_syntax e f h s))
 
-pub same_form_err_left : (k : Rule) (a b : Stream) (r : Result Bool (List FaultValue)) (e : Refusal) → IsErrAnd r (λ f. IsRefusedAs e f) → (IsSyntax e → whole_only (parse_rule k a) ≡ None) → SameFormOutcome IsSyntaxError k a b r
+pub same_form_err_left : (k : Rule) (a b : Stream) (r : Result Bool ErrorValue) (e : Refusal) → IsErrAnd r (λ f. IsRefusedAs e f) → (IsSyntax e → whole_only (parse_rule k a) ≡ None) → SameFormOutcome IsSyntaxError k a b r
 same_form_err_left k a b (Ok p) e h n = absurd h
 same_form_err_left k a b (Err f) e h n = λ v w s. inl (refused_of k a (n (refused_by_syntax e f h s)))
 
-pub same_form_err_right : (k : Rule) (a b : Stream) (r : Result Bool (List FaultValue)) (e : Refusal) → IsErrAnd r (λ f. IsRefusedAs e f) → (IsSyntax e → whole_only (parse_rule k b) ≡ None) → SameFormOutcome IsSyntaxError k a b r
+pub same_form_err_right : (k : Rule) (a b : Stream) (r : Result Bool ErrorValue) (e : Refusal) → IsErrAnd r (λ f. IsRefusedAs e f) → (IsSyntax e → whole_only (parse_rule k b) ≡ None) → SameFormOutcome IsSyntaxError k a b r
 same_form_err_right k a b (Ok p) e h n = absurd h
 same_form_err_right k a b (Err f) e h n = λ v w s. inr (refused_of k b (n (refused_by_syntax e f h s)))
+
+-- no refusal is too deep
+pub shallow_err : {X : Type 0} (r : Result X ErrorValue) (e : Refusal) → IsErrAnd r (λ f. IsRefusedAs e f) → (IsTooDeep e → ⊥) → Never IsTooDeepError r
+shallow_err (Ok x) e h n = tt
+shallow_err (Err f) e h n = λ d. n (deep e f h d)
+  where
+    deep : (e : Refusal) (f : ErrorValue) → IsRefusedAs e f → IsTooDeepError f → IsTooDeep e
+    deep (R.Memory e) f h d = subst IsTooDeepError h d
+    deep (R.TooDeep span) f h d = tt
+    deep (R.Syntax span text) f h d = subst IsTooDeepError h d

@@ -11,7 +11,7 @@ use Rattle.syn_grammar.specs.Run.{parse_rule}
 use Rattle.syn_grammar.proofs.Joined.{joined_items, joined_is_visible}
 use Rattle.syn_grammar.proofs.Streams.{append_append, append_end}
 use Rattle.syn_recognize.specs.DeferredTokens.{whole_only}
-use Rattle.syn_tokens.specs.Faults.{FaultValue, IsSyntaxError}
+use Rattle.syn_tokens.specs.Faults.{ErrorValue, IsSyntaxError}
 use Rattle.syn_parse.specs.Refusals.{IsSyntax, IsRefusedAs}
 use Rattle.syn_parse.specs.declared.read.refusal.Refusal.{Refusal}
 use Rattle.syn_parse.proofs.Refused.{refused_by_syntax}
@@ -48,7 +48,7 @@ ends l i j h s v =
       as_a_file = subst (λ z. IsFileOf z all) (sym p) (joined_items l all d);
     }
 
-pub refused : (l : List Stream) (i : ℕ) (a j : Stream) (r : Result Stream (List FaultValue)) (e : Refusal) → i < length l → a ≡ get_or l i a → JoinedSoFar l (drop i l) j → IsErrAnd r (λ f. IsRefusedAs e f) →
+pub refused : (l : List Stream) (i : ℕ) (a j : Stream) (r : Result Stream ErrorValue) (e : Refusal) → i < length l → a ≡ get_or l i a → JoinedSoFar l (drop i l) j → IsErrAnd r (λ f. IsRefusedAs e f) →
     (IsSyntax e → whole_only (parse_rule item a) ≡ None) → JoinOutcome IsSyntaxError l r
 refused l i a j (Ok p) e h q s f n = absurd f
 refused l i a j (Err g) e h q s f n = λ v x. (subst (λ m. JoinedSoFar l m j) (at_drop_more (λ m. m) l i a h) s).back (inl (subst (Refused item) q (refused_of item a (n (refused_by_syntax e g f x)))))

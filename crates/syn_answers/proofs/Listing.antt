@@ -1,5 +1,5 @@
 -- The items of a file are listed one by one.
-use Rattle.std.proofs.Common.{◌≡◌, ℕ, ◌+◌, ◌≤◌, Bool, true, false, Some, None, refl, sym, ap, ◌∙◌, subst, true≢false, arith}
+use Rattle.std.proofs.Common.{◌≡◌, ℕ, ◌+◌, ◌<◌, ◌≤◌, Bool, true, false, Some, None, refl, sym, ap, ◌∙◌, subst, true≢false, arith}
 use Rattle.std.specs.Prelude.{List, [], ◌∷◌, ◌++◌, map, Result, Ok, Err}
 use Rattle.std.specs.Result.{IfErr, IsErrAnd}
 use Rattle.std.proofs.lemmas.List.{map-append}
@@ -9,7 +9,9 @@ use Rattle.syn_grammar.specs.RuleNumbers.{same_rule}
 use Rattle.syn_grammar.specs.Rules.{Rule}
 use Rattle.syn_grammar.specs.Grammar.{Syntax, Node, among}
 use Rattle.syn_grammar.specs.Table.{table}
-use Rattle.syn_grammar.specs.Take.{length, sees}
+use Rattle.syn_grammar.specs.Take.{left, length, sees}
+use Rattle.syn_grammar.proofs.Run.{Less, parse_rule_less}
+use Rattle.syn_grammar.proofs.Said.{start_of}
 use Rattle.syn_grammar.specs.Run.{parse_rule}
 use Rattle.syn_grammar.specs.EntryPoints.{IsKind, kinds_of}
 use Rattle.syn_grammar.specs.Promises.{Refused}
@@ -20,7 +22,7 @@ use Rattle.syn_grammar.proofs.ListedItems.{listing_begins, listing_continues, li
 use Rattle.syn_tokens.specs.Cursors.{before_next}
 use Rattle.syn_tokens.specs.declared.stream.cursor.TokenTreeRef.{TokenTreeRef}
 use Rattle.syn_tokens.specs.declared.stream.cursor.TokenTreeRef.TheVariants as N
-use Rattle.syn_tokens.specs.Faults.{FaultValue, IsSyntaxError}
+use Rattle.syn_tokens.specs.Faults.{ErrorValue, IsSyntaxError}
 use Rattle.syn_parse.specs.Refusals.{IsSyntax, IsRefusedAs}
 use Rattle.syn_parse.specs.declared.read.refusal.Refusal.{Refusal}
 use Rattle.syn_parse.proofs.Refused.{refused_by_syntax}
@@ -131,6 +133,28 @@ gone_on ts l n m i r b h f e (s, p, q) g =
     let x = listing_continues ts (map entry_of l) m (rule_of i.kind) s r h (sym f ∙ e) (is_kind i.kind) p in
     subst (λ z. ListedSoFar ts z r) (ap (λ z. map entry_of l ++ (rule_of i.kind, z) ∷ []) (sym q) ∙ sym (map-append entry_of l (i ∷ [])) ∙ ap (map entry_of) (sym g)) x
 
+-- an item has some token
+some_token : (k : ItemKind) → (start_of (rule_of k)).nullable ≡ false
+some_token K.Const = refl
+some_token K.Enum = refl
+some_token K.ExternCrate = refl
+some_token K.Fn = refl
+some_token K.ForeignMod = refl
+some_token K.Impl = refl
+some_token K.Macro = refl
+some_token K.Mod = refl
+some_token K.Static = refl
+some_token K.Struct = refl
+some_token K.Trait = refl
+some_token K.TraitAlias = refl
+some_token K.Ty = refl
+some_token K.Union = refl
+some_token K.Use = refl
+some_token K.Verbatim = refl
+
+pub item_less : (k : ItemKind) (s : Syntax) (ts r : Stream) → parse_rule (rule_of k) ts ≡ Some (s, r) → left r < left ts
+item_less k s ts r e = subst (λ b. Less b ts r) (some_token k) (parse_rule_less (rule_of k) ts (s, r) e)
+
 pub ends : (ts : Stream) (l : List ListedItem) (m : Stream) → ListedSoFar ts (map entry_of l) m → sees ended m ≡ true → FileLists ts (map entry_of l)
 ends ts l m = listing_ends ts (map entry_of l) m
 
@@ -141,7 +165,7 @@ pub same_err : {X : Type 0} (r : Result X Refusal) (e : Refusal) (P : Type 0) �
 same_err (Ok x) e P h n = absurd h
 same_err (Err f) e P h n = λ s. n (subst IsSyntax h s)
 
-pub listed_err : {X : Type 0} (ts : Stream) (r : Result X (List FaultValue)) (e : Refusal) → IsErrAnd r (λ f. IsRefusedAs e f) → (IsSyntax e → Refused rules.file ts) →
+pub listed_err : {X : Type 0} (ts : Stream) (r : Result X ErrorValue) (e : Refusal) → IsErrAnd r (λ f. IsRefusedAs e f) → (IsSyntax e → Refused rules.file ts) →
     IfErr r (λ f. visible ts ≡ true → IsSyntaxError f → Refused rules.file ts)
 listed_err ts (Ok x) e h n = absurd h
 listed_err ts (Err f) e h n = λ v s. n (refused_by_syntax e f h s)

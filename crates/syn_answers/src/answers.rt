@@ -2,9 +2,10 @@
 ghost use Rattle.syn_answers.specs.Canonical.{CanonicalOutcome, SameFormOutcome, StillCanonical, WholeOutcome};
 ghost use Rattle.syn_answers.specs.Joining.{JoinOutcome};
 ghost use Rattle.syn_answers.specs.Whole.{WholePrint, WholeRead};
-ghost use Rattle.syn_parse.specs.Refusals.{IsSyntax};
+ghost use Rattle.syn_grammar.specs.Promises.{Never};
+ghost use Rattle.syn_parse.specs.Refusals.{IsSyntax, IsTooDeep};
 ghost use Rattle.syn_recognize.specs.Names.{rule_of};
-ghost use Rattle.syn_tokens.specs.Faults.{IsSyntaxError};
+ghost use Rattle.syn_tokens.specs.Faults.{IsSyntaxError, IsTooDeepError};
 
 use crate::faults::reported;
 use std::alloc::Global;
@@ -15,8 +16,10 @@ use syn_tokens::error::Result;
 use syn_tokens::stream::TokenStream;
 
 /// The print of the whole stream, as the rule reads it.
+#[tactic(auto, using(syn_recognize::proofs::Stops::token_shallow))]
 fn printed_to_end(rule: Rule, tokens: &TokenStream) -> Parsed<TokenStream>
-    ensures { WholePrint IsSyntax (rule_of rule) tokens.now result }
+    ensures printed { WholePrint IsSyntax (rule_of rule) tokens.now result }
+    ensures shallow { Never IsTooDeep result }
 {
     let mut input = ParseBuffer::new(tokens);
     let printed = printed_by(rule, &mut input)?;
@@ -26,7 +29,8 @@ fn printed_to_end(rule: Rule, tokens: &TokenStream) -> Parsed<TokenStream>
 
 /// The print of the whole stream, as the rule reads it, with the error messages that depend on several tokens.
 fn printed_whole(rule: Rule, tokens: &TokenStream) -> Parsed<TokenStream>
-    ensures { WholePrint IsSyntax (rule_of rule) tokens.now result }
+    ensures printed { WholePrint IsSyntax (rule_of rule) tokens.now result }
+    ensures shallow { Never IsTooDeep result }
 {
     match printed_to_end(rule, tokens) {
         Ok(printed) => Ok(printed),
@@ -35,8 +39,10 @@ fn printed_whole(rule: Rule, tokens: &TokenStream) -> Parsed<TokenStream>
 }
 
 /// Whether the rule reads the whole stream. Stores none of it.
+#[tactic(auto, using(syn_recognize::proofs::Stops::token_shallow))]
 fn read_to_end(rule: Rule, tokens: &TokenStream) -> Parsed<()>
-    ensures { WholeRead IsSyntax (rule_of rule) tokens.now result }
+    ensures read { WholeRead IsSyntax (rule_of rule) tokens.now result }
+    ensures shallow { Never IsTooDeep result }
 {
     let mut input = ParseBuffer::new(tokens);
     read_by(rule, &mut input)?;
@@ -46,7 +52,8 @@ fn read_to_end(rule: Rule, tokens: &TokenStream) -> Parsed<()>
 
 /// Whether the rule reads the whole stream, with the error messages that depend on several tokens.
 fn read_whole(rule: Rule, tokens: &TokenStream) -> Parsed<()>
-    ensures { WholeRead IsSyntax (rule_of rule) tokens.now result }
+    ensures read { WholeRead IsSyntax (rule_of rule) tokens.now result }
+    ensures shallow { Never IsTooDeep result }
 {
     match read_to_end(rule, tokens) {
         Ok(()) => Ok(()),
@@ -65,6 +72,7 @@ fn read_whole(rule: Rule, tokens: &TokenStream) -> Parsed<()>
 pub fn canonical_by(rule: Rule, tokens: TokenStream) -> Result<TokenStream>
     ensures canonical { CanonicalOutcome IsSyntaxError (rule_of rule) tokens result }
     ensures grown { StillCanonical IsSyntaxError (rule_of rule) tokens result }
+    ensures shallow { Never IsTooDeepError result }
 {
     Ok(printed_whole(rule, &tokens)?)
 }
@@ -73,6 +81,7 @@ pub fn canonical_by(rule: Rule, tokens: TokenStream) -> Result<TokenStream>
 #[tactic(auto, using(crate::proofs::Canons::derived_of))]
 pub fn derived_by(rule: Rule, tokens: TokenStream) -> Result<()>
     ensures derived { WholeOutcome IsSyntaxError (rule_of rule) tokens result }
+    ensures shallow { Never IsTooDeepError result }
 {
     Ok(read_whole(rule, &tokens)?)
 }
@@ -84,6 +93,7 @@ pub fn derived_by(rule: Rule, tokens: TokenStream) -> Result<()>
 #[tactic(auto, using(crate::proofs::Canons::same_form_of))]
 pub fn same_form_by(rule: Rule, left: TokenStream, right: TokenStream) -> Result<bool>
     ensures same_form { SameFormOutcome IsSyntaxError (rule_of rule) left right result }
+    ensures shallow { Never IsTooDeepError result }
 {
     let left_print = printed_whole(rule, &left)?;
     let right_print = printed_whole(rule, &right)?;
@@ -96,6 +106,7 @@ pub fn same_form_by(rule: Rule, left: TokenStream, right: TokenStream) -> Result
 #[tactic(auto, using(crate::proofs::Joining::begins, crate::proofs::Joining::proceeds, crate::proofs::Joining::ends), unfolding(syn_recognize::specs::Names::rule_of))]
 pub fn join_items(alloc: Global, pieces: &[TokenStream]) -> Result<TokenStream>
     ensures joined { JoinOutcome IsSyntaxError pieces.now result }
+    ensures shallow { Never IsTooDeepError result }
 {
     let mut joined = TokenStream::new(alloc);
     'pieces: for piece in pieces {

@@ -1,6 +1,6 @@
 //! Error messages that depend on the tokens before the unexpected one.
 ghost use Rattle.std.specs.Prelude.{◌↔◌};
-ghost use Rattle.syn_parse.specs.Refusals.{IsSyntax};
+ghost use Rattle.syn_parse.specs.Refusals.{IsSyntax, IsTooDeep};
 
 mod angles;
 mod context;
@@ -53,10 +53,12 @@ impl Expected {
 /// The refusal of a stream by this rule, with the text and the place that the tokens before the error give. Takes no memory, and passes the
 /// tokens before the error once.
 pub(crate) fn reported(refusal: Refusal, rule: Rule, tokens: &TokenStream) -> Refusal
-    ensures { IsSyntax result ↔ IsSyntax refusal }
+    ensures syntax { IsSyntax result ↔ IsSyntax refusal }
+    ensures deep { IsTooDeep result ↔ IsTooDeep refusal }
 {
     match refusal {
-        Refusal::Memory(at) => Refusal::Memory(at),
+        Refusal::Memory(error) => Refusal::Memory(error),
+        Refusal::TooDeep(span) => Refusal::TooDeep(span),
         Refusal::Syntax { span, text } => {
             let fault = fault_of(Fault { span, text }, rule, tokens);
             Refusal::Syntax {

@@ -3,10 +3,10 @@ ghost use Rattle.std.specs.Prelude.{◌≡◌, [], ◌∷◌, map, true, IfOk, I
 ghost use Rattle.syn_grammar.specs.Tokens.{visible};
 ghost use Rattle.syn_grammar.specs.Rules as rules;
 ghost use Rattle.syn_grammar.specs.Listed.{FileLists};
-ghost use Rattle.syn_grammar.specs.Promises.{Refused};
-ghost use Rattle.syn_parse.specs.Refusals.{IsSyntax};
+ghost use Rattle.syn_grammar.specs.Promises.{Never, Refused};
+ghost use Rattle.syn_parse.specs.Refusals.{IsSyntax, IsTooDeep};
 ghost use Rattle.syn_recognize.specs.Names as names;
-ghost use Rattle.syn_tokens.specs.Faults.{IsSyntaxError};
+ghost use Rattle.syn_tokens.specs.Faults.{IsSyntaxError, IsTooDeepError};
 ghost use Rattle.syn_answers.specs.Listing.{entry_of, rule_of, KindTried, KindsTried, KindRead, ItemRead};
 ghost use Rattle.syn_answers.specs.declared.list.ItemKind.TheVariants as K;
 
@@ -85,7 +85,8 @@ fn rule_by(kind: ItemKind) -> Option<Rule>
 
 /// Reads an item of this kind, and returns whether there was one; if there was none, nothing is read.
 fn try_kind(kind: ItemKind, input: &mut ParseBuffer<'_>) -> Parsed<bool>
-    ensures { KindTried IsSyntax kind input.old result input.new }
+    ensures tried { KindTried IsSyntax kind input.old result input.new }
+    ensures shallow { Never IsTooDeep result }
 {
     let Some(rule) = rule_by(kind) else {
         return Ok(false);
@@ -97,7 +98,8 @@ fn try_kind(kind: ItemKind, input: &mut ParseBuffer<'_>) -> Parsed<bool>
             Ok(true)
         }
         Err(Refusal::Syntax { .. }) => Ok(false),
-        Err(Refusal::Memory(at)) => Err(Refusal::Memory(at)),
+        Err(Refusal::Memory(error)) => Err(Refusal::Memory(error)),
+        Err(Refusal::TooDeep(_)) => unreachable!(),
     }
 }
 
@@ -105,7 +107,8 @@ fn try_kind(kind: ItemKind, input: &mut ParseBuffer<'_>) -> Parsed<bool>
 
 /// Tries the most common kinds.
 fn try_common(input: &mut ParseBuffer<'_>) -> Parsed<Option<ItemKind>>
-    ensures { KindsTried IsSyntax (K.Fn ∷ K.Struct ∷ K.Impl ∷ K.Enum ∷ K.Use ∷ []) input.old result input.new }
+    ensures tried { KindsTried IsSyntax (K.Fn ∷ K.Struct ∷ K.Impl ∷ K.Enum ∷ K.Use ∷ []) input.old result input.new }
+    ensures shallow { Never IsTooDeep result }
 {
     if try_kind(ItemKind::Fn, input)? {
         return Ok(Some(ItemKind::Fn));
@@ -127,7 +130,8 @@ fn try_common(input: &mut ParseBuffer<'_>) -> Parsed<Option<ItemKind>>
 
 /// Tries the kinds that are neither common nor rare.
 fn try_others(input: &mut ParseBuffer<'_>) -> Parsed<Option<ItemKind>>
-    ensures { KindsTried IsSyntax (K.Const ∷ K.Mod ∷ K.Trait ∷ K.Ty ∷ K.Macro ∷ []) input.old result input.new }
+    ensures tried { KindsTried IsSyntax (K.Const ∷ K.Mod ∷ K.Trait ∷ K.Ty ∷ K.Macro ∷ []) input.old result input.new }
+    ensures shallow { Never IsTooDeep result }
 {
     if try_kind(ItemKind::Const, input)? {
         return Ok(Some(ItemKind::Const));
@@ -149,7 +153,8 @@ fn try_others(input: &mut ParseBuffer<'_>) -> Parsed<Option<ItemKind>>
 
 /// Tries the rarest kinds.
 fn try_rare(input: &mut ParseBuffer<'_>) -> Parsed<Option<ItemKind>>
-    ensures { KindsTried IsSyntax (K.Static ∷ K.ExternCrate ∷ K.ForeignMod ∷ K.Union ∷ K.TraitAlias ∷ []) input.old result input.new }
+    ensures tried { KindsTried IsSyntax (K.Static ∷ K.ExternCrate ∷ K.ForeignMod ∷ K.Union ∷ K.TraitAlias ∷ []) input.old result input.new }
+    ensures shallow { Never IsTooDeep result }
 {
     if try_kind(ItemKind::Static, input)? {
         return Ok(Some(ItemKind::Static));
@@ -174,7 +179,8 @@ fn try_rare(input: &mut ParseBuffer<'_>) -> Parsed<Option<ItemKind>>
 /// Reads an item of any kind, and returns its kind: verbatim where none of the kinds reads it.
 #[tactic(auto, using(crate::proofs::Listing::kept), unfolding(syn_recognize::specs::Names::rule_of))]
 fn read_any(input: &mut ParseBuffer<'_>) -> Parsed<ItemKind>
-    ensures { KindRead IsSyntax input.old result input.new }
+    ensures read { KindRead IsSyntax input.old result input.new }
+    ensures shallow { Never IsTooDeep result }
 {
     if let Some(kind) = try_common(input)? {
         return Ok(kind);
@@ -191,7 +197,8 @@ fn read_any(input: &mut ParseBuffer<'_>) -> Parsed<ItemKind>
 
 /// Reads an item, and returns its kind. The kind that its words suggest is tried first, so that most items are read once.
 fn read_kind(input: &mut ParseBuffer<'_>) -> Parsed<ItemKind>
-    ensures { KindRead IsSyntax input.old result input.new }
+    ensures read { KindRead IsSyntax input.old result input.new }
+    ensures shallow { Never IsTooDeep result }
 {
     let guessed = guess(&input.cursor());
     if try_kind(guessed, input)? {
@@ -202,7 +209,8 @@ fn read_kind(input: &mut ParseBuffer<'_>) -> Parsed<ItemKind>
 
 /// Reads an item.
 fn read_item(input: &mut ParseBuffer<'_>) -> Parsed<ListedItem>
-    ensures { ItemRead IsSyntax input.old result input.new }
+    ensures read { ItemRead IsSyntax input.old result input.new }
+    ensures shallow { Never IsTooDeep result }
 {
     let ahead = input.fork();
     let kind = read_kind(input)?;
@@ -215,18 +223,16 @@ fn read_item(input: &mut ParseBuffer<'_>) -> Parsed<ListedItem>
 fn listed_to_end(tokens: &TokenStream) -> Parsed<Vec<ListedItem>>
     ensures listed { IfOk result (λ list. FileLists tokens.now (map entry_of list.items)) }
     ensures refused { IfErr result (λ e. IsSyntax e → Refused rules.file tokens.now) }
+    ensures shallow { Never IsTooDeep result }
 {
     let mut input = ParseBuffer::new(tokens);
     read_by(Rule::INNER_ATTRIBUTES, &mut input)?;
     let mut list = Vec::new(tokens.alloc());
-    'items: for _item in 0..u64::MAX {
-        if input.is_empty() {
-            return Ok(list);
-        }
+    'items: while !input.is_empty() {
         let item = read_item(&mut input)?;
         list.push(item)?;
     }
-    Err(Refusal::Memory(None))
+    Ok(list)
 }
 
 /// The items of a whole file, with the error messages that depend on several tokens.
@@ -234,6 +240,7 @@ fn listed_to_end(tokens: &TokenStream) -> Parsed<Vec<ListedItem>>
 fn listed(tokens: &TokenStream) -> Parsed<Vec<ListedItem>>
     ensures listed { IfOk result (λ list. FileLists tokens.now (map entry_of list.items)) }
     ensures refused { IfErr result (λ e. IsSyntax e → Refused rules.file tokens.now) }
+    ensures shallow { Never IsTooDeep result }
 {
     match listed_to_end(tokens) {
         Ok(list) => Ok(list),
@@ -247,6 +254,7 @@ fn listed(tokens: &TokenStream) -> Parsed<Vec<ListedItem>>
 pub fn list_items(tokens: &TokenStream) -> Result<Vec<ListedItem>>
     ensures listed { IfOk result (λ list. visible tokens.now ≡ true → FileLists tokens.now (map entry_of list.items)) }
     ensures refused { IfErr result (λ e. visible tokens.now ≡ true → IsSyntaxError e → Refused rules.file tokens.now) }
+    ensures shallow { Never IsTooDeepError result }
 {
     Ok(listed(tokens)?)
 }

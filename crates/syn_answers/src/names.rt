@@ -1,14 +1,12 @@
 //! The names of items, found ahead of reading.
-ghost use Rattle.std.specs.Prelude.{◌≡◌};
+ghost use Rattle.std.specs.Prelude.{◌≡◌, IfOk};
 ghost use Rattle.syn_grammar.specs.Listed as grammar;
 ghost use Rattle.syn_grammar.specs.Listed.{past};
-ghost use Rattle.syn_parse.specs.Refusals.{IsSyntax};
-ghost use Rattle.syn_grammar.specs.Promises.{OrMemory};
 ghost use Rattle.syn_answers.specs.Listing.{marker_of, marks, name_of, rule_of};
 
 use crate::list::ItemKind;
+use std::alloc::AllocError;
 use syn_parse::buffer::ParseBuffer;
-use syn_parse::read::refusal::Parsed;
 use syn_tokens::ident::Ident;
 use syn_tokens::stream::cursor::{Cursor, TokenTreeRef};
 
@@ -85,8 +83,8 @@ pub(crate) fn after_mut<'a>(trees: &Cursor<'a>) -> Cursor<'a>
 }
 
 /// The identifier that is next.
-fn name(trees: &Cursor<'_>) -> Parsed<Option<Ident>>
-    ensures { OrMemory IsSyntax result (λ name. name_of name ≡ grammar.name_next trees.now) }
+fn name(trees: &Cursor<'_>) -> Result<Option<Ident>, AllocError>
+    ensures { IfOk result (λ name. name_of name ≡ grammar.name_next trees.now) }
 {
     match trees.split_ident() {
         Some((ident, _)) => Ok(Some(ident.to_ident()?)),
@@ -95,8 +93,8 @@ fn name(trees: &Cursor<'_>) -> Parsed<Option<Ident>>
 }
 
 /// The identifier after the first of these words outside of groups.
-fn name_after(trees: &Cursor<'_>, word: &'static str) -> Parsed<Option<Ident>>
-    ensures { OrMemory IsSyntax result (λ name. name_of name ≡ grammar.name_past word.now trees.now) }
+fn name_after(trees: &Cursor<'_>, word: &'static str) -> Result<Option<Ident>, AllocError>
+    ensures { IfOk result (λ name. name_of name ≡ grammar.name_past word.now trees.now) }
 {
     name(&following(trees, Marker::Word(word)))
 }
@@ -104,8 +102,11 @@ fn name_after(trees: &Cursor<'_>, word: &'static str) -> Parsed<Option<Ident>>
 // Written by tools/kinds.py down to the next such comment; edits are lost.
 
 /// The name of the item of this kind that begins here.
-pub(crate) fn name_ahead(kind: ItemKind, input: &ParseBuffer<'_>) -> Parsed<Option<Ident>>
-    ensures { OrMemory IsSyntax result (λ name. name_of name ≡ grammar.name_ahead (rule_of kind) input.now) }
+pub(crate) fn name_ahead(
+    kind: ItemKind,
+    input: &ParseBuffer<'_>,
+) -> Result<Option<Ident>, AllocError>
+    ensures { IfOk result (λ name. name_of name ≡ grammar.name_ahead (rule_of kind) input.now) }
 {
     let trees = input.cursor();
     match kind {

@@ -5,15 +5,16 @@ use Rattle.std.specs.declared.alloc.Global.{Global}
 use Rattle.syn_grammar.specs.Tokens.{Stream}
 use Rattle.syn_grammar.specs.Rules.{Rule}
 use Rattle.syn_grammar.specs.Promises.{Refused}
-use Rattle.syn_tokens.specs.Faults.{FaultValue, IsSyntaxError}
+use Rattle.syn_tokens.specs.Faults.{ErrorValue, syntax_error, too_deep, out_of_memory, IsSyntaxError}
 use Rattle.syn_canon.specs.Statuses.{failure_of, is_decided, status_of}
 use Rattle.syn_canon.specs.Answers.{IsDecided, IsNoAnswer, IsUnderived, IsUndone}
 use Rattle.syn_canon.specs.declared.failure.Failure.{Failure}
 use Rattle.syn_canon.specs.declared.failure.Failure.TheVariants as failures
 
-pub underived : (rule : Rule) (stream : Stream) (error : List FaultValue) → (IsSyntaxError error → Refused rule stream) → IsUnderived rule stream (failure_of error)
-underived rule stream [] refused = tt
-underived rule stream (fault ∷ faults) refused = (tt, refused tt)
+pub underived : (rule : Rule) (stream : Stream) (error : ErrorValue) → (IsSyntaxError error → Refused rule stream) → IsUnderived rule stream (failure_of error)
+underived rule stream out_of_memory refused = tt
+underived rule stream (too_deep span) refused = tt
+underived rule stream (syntax_error faults) refused = (tt, refused tt)
 
 no_answer_of : (words : List (String Global)) (known : Option (List ℕ)) (failure : Failure) → is_decided failure ≡ true → IsUndone words known failure → IsNoAnswer words known failure
 no_answer_of words known failures.Usage d u = u

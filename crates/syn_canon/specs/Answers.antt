@@ -8,7 +8,7 @@ use Rattle.syn_grammar.specs.Rules.{Rule, file}
 use Rattle.syn_grammar.specs.Grammar.{Syntax}
 use Rattle.syn_grammar.specs.Laws.{Derives}
 use Rattle.syn_grammar.specs.Promises as grammar
-use Rattle.syn_tokens.specs.Faults.{FaultValue, IsSyntaxError}
+use Rattle.syn_tokens.specs.Faults.{ErrorValue, IsSyntaxError}
 use Rattle.syn_reader.specs.Refusals as reader
 use Rattle.syn_reader.specs.Spelling.{Spells, IsFaultWithin}
 use Rattle.syn_reader.specs.Texts.{text_of}
@@ -65,7 +65,7 @@ pub record IsAnswer (words : List (String Global)) (known : Option (List ℕ)) (
 
 -- why nothing is derived from a stream: the rule derives no tree
 abbrev pub IsUnderived : Rule → Stream → Failure → Type 0
-IsUnderived rule stream (Refused faults) = IsSyntaxError faults × grammar.Refused rule stream
+IsUnderived rule stream (Refused error) = IsSyntaxError error × grammar.Refused rule stream
 IsUnderived rule stream OutOfMemory = Unit {0}
 IsUnderived rule stream _ = ⊥
 
@@ -78,14 +78,14 @@ IsUnread known _ = ⊥
 
 -- The text can't be cut into tokens or its groups don't match: the reader's fault says where and why. Or it spells a stream from which the
 -- rule derives no tree.
-abbrev pub IsRefusal : Rule → List ℕ → List FaultValue → Type 0
-IsRefusal rule text faults = (IsFaultWithin (length text) faults × reader.IsRefusal text faults) ⊎ ((stream : Stream) × Spells text stream × grammar.Refused rule stream)
+abbrev pub IsRefusal : Rule → List ℕ → ErrorValue → Type 0
+IsRefusal rule text error = (IsFaultWithin (length text) error × reader.IsRefusal text error) ⊎ ((stream : Stream) × Spells text stream × grammar.Refused rule stream)
 
 -- why there is no output: the words are no command, or no text is read, or the text is refused
 abbrev pub IsNoAnswer : List (String Global) → Option (List ℕ) → Failure → Type 0
 IsNoAnswer words known Usage = NoCommand words
-IsNoAnswer words known (Refused faults) =
-    (command : Command) × IsCommand words command × (text : List ℕ) × IsRead known text × IsSyntaxError faults × IsRefusal (rule_for command) text faults
+IsNoAnswer words known (Refused error) =
+    (command : Command) × IsCommand words command × (text : List ℕ) × IsRead known text × IsSyntaxError error × IsRefusal (rule_for command) text error
 IsNoAnswer words known failure = IsUnread known failure
 
 -- A WHOLE RUN

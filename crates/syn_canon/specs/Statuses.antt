@@ -1,7 +1,7 @@
 -- HOW THE PROGRAM ENDS WITHOUT OUTPUT.
 use Rattle.std.specs.Prelude.{ℕ, Bool, true, false, List, [], ◌∷◌, ◌++◌, codes}
 use Rattle.std.specs.Fmt.{decimal}
-use Rattle.syn_tokens.specs.Faults.{FaultValue}
+use Rattle.syn_tokens.specs.Faults.{FaultValue, ErrorValue, syntax_error, too_deep, out_of_memory, faults_of}
 use Rattle.syn_canon.specs.declared.failure.Failure.{Failure}
 use Rattle.syn_canon.specs.declared.failure.Failure.TheVariants.{Usage, ReadFailed, NotUtf8, Refused, WriteFailed, OutOfMemory}
 
@@ -23,17 +23,22 @@ is_decided (Refused e) = true
 is_decided WriteFailed = false
 is_decided OutOfMemory = false
 
+-- the line for these faults: the first one
+abbrev pub line_for : List FaultValue → List ℕ
+line_for [] = codes "out of memory"
+line_for (fault ∷ faults) = codes "refused at " ++ (decimal fault.0.start ++ (codes ": " ++ fault.1))
+
 -- the line that is written, without its newline
 abbrev pub line_of : Failure → List ℕ
 line_of Usage = codes "usage: syn_canon print|check KIND, or syn_canon list"
 line_of ReadFailed = codes "read failed"
 line_of NotUtf8 = codes "refused at 0: input is not UTF-8"
-line_of (Refused []) = codes "out of memory"
-line_of (Refused (fault ∷ faults)) = codes "refused at " ++ (decimal fault.0.start ++ (codes ": " ++ fault.1))
+line_of (Refused error) = line_for (faults_of error)
 line_of WriteFailed = codes "write failed"
 line_of OutOfMemory = codes "out of memory"
 
--- what an error of the library means: memory was refused, if it has no fault
-abbrev pub failure_of : List FaultValue → Failure
-failure_of [] = OutOfMemory
-failure_of (fault ∷ faults) = Refused (fault ∷ faults)
+-- what an error of the library means; nothing is too deep for the calls of the program
+abbrev pub failure_of : ErrorValue → Failure
+failure_of out_of_memory = OutOfMemory
+failure_of (too_deep span) = OutOfMemory
+failure_of (syntax_error faults) = Refused (syntax_error faults)

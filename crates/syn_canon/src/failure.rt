@@ -88,7 +88,7 @@ impl From<Error> for Failure {
     ghost from_gives = { λ error f. f ≡ failure_of error };
 
     fn from(error: Error) -> Failure {
-        if error.is_memory() {
+        if error.is_memory() || error.is_too_deep() {
             Failure::OutOfMemory
         } else {
             Failure::Refused(error)

@@ -1,6 +1,6 @@
 //! Where the parsers of expressions and statements lead back to each other.
-ghost use Rattle.std.specs.Prelude.{◌≡◌, refl, OnErr};
-ghost use Rattle.syn_grammar.specs.Promises.{OrMemory};
+ghost use Rattle.std.specs.Prelude.{◌≡◌, refl, None, IfErr, OnErr};
+ghost use Rattle.syn_recognize.specs.Names as names;
 ghost use Rattle.syn_grammar.specs.Rules as rules;
 ghost use Rattle.syn_parse.specs.Meanings.{meaning_of, meaning_of_rule};
 ghost use Rattle.syn_lower.specs.Parsing.{of, rule, parse_rule, Computes, Kept, MayBelow, MayParse, Outcome, Parses, IsSyntax, IsSyntaxError};
@@ -22,16 +22,17 @@ use syn_parse::buffer::ParseBuffer;
 use syn_parse::limits::EXPRESSION;
 use syn_parse::read::Read;
 use syn_parse::read::refusal::{Parsed, Refusal};
+use syn_recognize::Rule;
 use syn_recognize::deferred::{BlockOf, TreeOf};
 use syn_tokens::error::Result;
 use syn_tokens::token::Brace;
 
-/// How many KiB of stack are left to what begins here. Memory is refused where chains in it are too long.
-fn begun(input: &mut ParseBuffer<'_>) -> Parsed<u32>
-    ensures memory { OrMemory IsSyntax result (λ _. Unit {0}) }
+/// How many KiB of stack are left for what the rule parses next. Fails if its chains are too long.
+fn begun(rule: Rule, input: &mut ParseBuffer<'_>) -> Parsed<u32>
+    ensures refused { IfErr result (λ e. IsSyntax e → parse_rule (names.rule_of rule) input.old ≡ None) }
     ensures unchanged { input.new ≡ input.old }
 {
-    refuse_long_chains(input)?;
+    refuse_long_chains(rule, input)?;
     Ok(input.stack_left())
 }
 
@@ -45,7 +46,7 @@ fn nested_expr<E: Carrier>(
     ensures parses { Parses E.is_syntax (λ e. whole e.value) (rule_of rung) input.old result input.new }
 {
     let Some(left) = inside.0.checked_sub(EXPRESSION) else {
-        return Err(E::carry(Refusal::Memory(Some(input.span()))));
+        return Err(E::carry(Refusal::TooDeep(input.span())));
     };
     let knot = Knot {
         expr: nested_expr::<E>,
@@ -68,7 +69,7 @@ fn nested_statements<E: Carrier>(
     ensures parses { MayParse E.is_syntax (λ v. statements_syntax v.items) rules.statements input.old result input.new }
 {
     let Some(left) = inside.0.checked_sub(EXPRESSION) else {
-        return Err(E::carry(Refusal::Memory(Some(input.span()))));
+        return Err(E::carry(Refusal::TooDeep(input.span())));
     };
     let knot = Knot {
         expr: nested_expr::<E>,
@@ -88,9 +89,9 @@ impl Read for Expr {
 
     ghost meaning = { meaning_of _ refl };
 
-    #[tactic(auto, using(crate::specs::Cores::core_view))]
+    #[tactic(auto, using(crate::specs::Cores::core_view), unfolding(syn_recognize::specs::Names::rule_of))]
     fn read(input: &mut ParseBuffer<'_>) -> Parsed<Expr> {
-        let left = begun(input)?;
+        let left = begun(Rule::WHOLE_EXPRESSION, input)?;
         Ok(ExprTrees::unboxed(nested_expr::<Refusal>(
             Rung::Whole(Spot::Anywhere),
             input,
@@ -103,8 +104,9 @@ impl Read for Expr {
 impl TreeOf<0> for Expr {
     ghost whole = { whole };
 
+    #[tactic(auto, unfolding(syn_recognize::specs::Names::rule_of))]
     fn read_tree(input: &mut ParseBuffer<'_>) -> Parsed<Expr> {
-        let left = begun(input)?;
+        let left = begun(Rule::WHOLE_EXPRESSION, input)?;
         Ok(ExprTrees::unboxed(nested_expr::<Refusal>(
             Rung::Whole(Spot::Anywhere),
             input,
@@ -117,9 +119,9 @@ impl TreeOf<0> for Expr {
 impl TreeOf<1> for Expr {
     ghost whole = { whole };
 
-    #[tactic(auto, using(crate::specs::Cores::core_view))]
+    #[tactic(auto, using(crate::specs::Cores::core_view), unfolding(syn_recognize::specs::Names::rule_of))]
     fn read_tree(input: &mut ParseBuffer<'_>) -> Parsed<Expr> {
-        let left = begun(input)?;
+        let left = begun(Rule::CONSTANT, input)?;
         let knot = Knot {
             expr: nested_expr::<Refusal>,
             statements: nested_statements::<Refusal>,
@@ -136,8 +138,9 @@ impl Read for Block {
 
     ghost meaning = { meaning_of_rule rules.block };
 
+    #[tactic(auto, unfolding(syn_recognize::specs::Names::rule_of))]
     fn read(input: &mut ParseBuffer<'_>) -> Parsed<Block> {
-        let left = begun(input)?;
+        let left = begun(Rule::BLOCK, input)?;
         let knot = Knot {
             expr: nested_expr::<Refusal>,
             statements: nested_statements::<Refusal>,
@@ -162,8 +165,9 @@ impl Read for Stmt {
 
     ghost meaning = { meaning_of_rule rules.statement };
 
+    #[tactic(auto, unfolding(syn_recognize::specs::Names::rule_of))]
     fn read(input: &mut ParseBuffer<'_>) -> Parsed<Stmt> {
-        let left = begun(input)?;
+        let left = begun(Rule::STATEMENT, input)?;
         let knot = Knot {
             expr: nested_expr::<Refusal>,
             statements: nested_statements::<Refusal>,
@@ -176,10 +180,11 @@ impl Read for Stmt {
 
 impl Block {
     /// Reads statements to the end, as `parse_within` parses them.
+    #[tactic(auto, unfolding(syn_recognize::specs::Names::rule_of))]
     pub fn read_within(input: &mut ParseBuffer<'_>) -> Parsed<Vec<Stmt>>
         ensures parses { MayParse IsSyntax (λ v. statements_syntax v.items) rules.statements input.old result input.new }
     {
-        let left = begun(input)?;
+        let left = begun(Rule::STATEMENTS, input)?;
         nested_statements::<Refusal>(input, (left, PhantomData))
     }
 

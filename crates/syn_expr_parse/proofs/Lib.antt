@@ -4,6 +4,7 @@ pub mod CratePaths
 pub mod Groups
 pub mod LevelLooks
 pub mod Levels
+pub mod LinkLevels
 pub mod Listed
 pub mod Locals
 pub mod Operators

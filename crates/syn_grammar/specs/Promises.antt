@@ -54,10 +54,15 @@ abbrev pub Finished : {X E : Type 0} → (E → Type 0) → Stream → Result X 
 Finished refusal ts (Ok x) = ts ≡ end
 Finished refusal ts (Err e) = refusal e × ((p : Out) → only (is_end ts) p ≡ None)
 
--- the returned value has this property, or memory was short
+-- the returned value has this property, or the call failed for another reason than a refusal: memory was short, or the nesting too deep
 abbrev pub OrMemory : {X E : Type 0} → (E → Type 0) → Result X E → (X → Type 0) → Type 0
 OrMemory refusal (Ok x) P = P x
 OrMemory refusal (Err e) P = refusal e → ⊥
+
+-- never an error of this kind
+abbrev pub Never : {X E : Type 0} → (E → Type 0) → Result X E → Type 0
+Never kind (Ok x) = Unit {0}
+Never kind (Err e) = kind e → ⊥
 
 -- FOR CALLERS, in the terms of the grammar
 

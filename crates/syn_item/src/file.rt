@@ -3,6 +3,7 @@ ghost use Rattle.std.specs.Prelude.{◌≡◌, IfOk, IfErr, []};
 ghost use Rattle.syn_grammar.specs.Same.{same_syntax};
 ghost use Rattle.syn_tokens.specs.Leaves.{maybe};
 ghost use Rattle.syn_item.specs.Files.{unshown_text};
+ghost use Rattle.syn_tokens.specs.Faults.{out_of_memory};
 
 mod parsing;
 
@@ -42,7 +43,7 @@ impl Print for File {
 /// A copy of a text.
 fn copy_text(text: &Option<String>, alloc: Global) -> error::Result<Option<String>>
     ensures copy { IfOk result (λ copy. maybe unshown_text copy ≡ maybe unshown_text text.now) }
-    ensures memory { IfErr result (λ e. e ≡ []) }
+    ensures memory { IfErr result (λ e. e ≡ out_of_memory) }
 {
     match text {
         Some(text) => {

@@ -184,10 +184,7 @@ fn finished(out: StreamBuilder) -> Result<TokenStream, AllocError>
     requires { out.open_groups ≡ [] }
     ensures { IfOk result (λ stream. stream ≡ out.stream) }
 {
-    match out.finish() {
-        Ok(stream) => Ok(stream),
-        Err(_unbalanced) => Err(AllocError),
-    }
+    Ok(out.into_stream())
 }
 
 /// The tokens of what follows an impl's generics.

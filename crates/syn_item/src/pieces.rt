@@ -245,6 +245,6 @@ pub(crate) fn kept_tokens<'a>(
     read_by(rule, input)?;
     match start.between(input) {
         Ok(tokens) => Ok(tokens),
-        Err(_) => Err(Refusal::Memory(None)),
+        Err(error) => Err(Refusal::Memory(error.into_alloc_error())),
     }
 }

@@ -10,6 +10,7 @@ ghost use Rattle.syn_lower.specs.Bodies.{attributes_before_body, attributes_in_b
 ghost use Rattle.syn_lower.specs.Generics.{clause_of};
 ghost use Rattle.syn_lower.specs.Types.{syntax_of_Type};
 ghost use Rattle.syn_item.specs.Simple.{aliased, attributes_by_content, content_syntax, module_content, placed_alias, syntax_of_WhereClausePlacement};
+ghost use Rattle.syn_tokens.specs.Faults.{out_of_memory};
 
 mod aliases;
 mod macro_items;
@@ -357,7 +358,7 @@ fn copy_content(
     alloc: Global,
 ) -> error::Result<Option<(Brace, DeferredItems)>>
     ensures copy { IfOk result (λ copy. content_syntax copy ≡ content_syntax content.now) }
-    ensures memory { IfErr result (λ e. e ≡ []) }
+    ensures memory { IfErr result (λ e. e ≡ out_of_memory) }
 {
     match content {
         Some((brace_token, items)) => Ok(Some((*brace_token, items.try_clone(alloc)?))),

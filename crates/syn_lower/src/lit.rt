@@ -10,6 +10,7 @@ ghost use Rattle.syn_tokens.specs.declared.literal.LitKind.{LitKind as KindOfLit
 ghost use Rattle.syn_parse.specs.Form.{by, of};
 ghost use Rattle.syn_parse.specs.Meanings.{meaning_of};
 ghost use Rattle.syn_lower.specs.Literals.{lit_form, lit_of_token, span_of_Lit, syntax_of_Lit, syntax_of_LitBool};
+ghost use Rattle.syn_tokens.specs.Faults.{out_of_memory};
 
 use std::alloc::{AllocError, Global};
 use std::marker::{Model, PhantomData};
@@ -108,7 +109,7 @@ impl<K: LiteralKind> LitToken<K> {
     /// The literal with this text, as it is written: with its quotes and suffix. Refused only where memory is.
     pub fn new(alloc: Global, text: &str, span: Span) -> Result<LitToken<K>>
         ensures ok { IfOk result (λ l. l ≡ record { kind = K.kind; text = text.now; span = span }) }
-        ensures memory { IfErr result (λ e. e ≡ []) }
+        ensures memory { IfErr result (λ e. e ≡ out_of_memory) }
     {
         let token = Literal::new(alloc, K::kind(), text, span)?;
         Ok(LitToken::of(token))

@@ -71,7 +71,7 @@ impl Print for Index {
         let digits = self.index.to_string(alloc)?;
         match Literal::new(alloc, LitKind::Int, digits.as_str(), self.span) {
             Ok(literal) => out.add_literal(literal),
-            Err(_) => Err(AllocError),
+            Err(error) => Err(error.into_alloc_error()),
         }
     }
 }

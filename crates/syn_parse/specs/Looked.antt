@@ -5,7 +5,7 @@ use Rattle.std.specs.Coded.{Coded, code_by, coded×, coded_list, coded_ℕ}
 use Rattle.syn_grammar.specs.Tokens.{Stream, ended, pick}
 use Rattle.syn_grammar.specs.Take.{sees}
 use Rattle.syn_grammar.specs.Codes.{stream_code}
-use Rattle.syn_tokens.specs.Faults.{FaultValue}
+use Rattle.syn_tokens.specs.Faults.{FaultValue, ErrorValue, syntax_error}
 use Rattle.syn_parse.specs.Nexts.{IsNext}
 use Rattle.syn_tokens.specs.declared.span.Span.{Span}
 
@@ -40,5 +40,5 @@ reported ts [] = unexpected ts ∷ []
 reported ts (x ∷ l) = x ∷ l
 
 -- there is a fault for each of these messages, in order, all at the next token
-abbrev pub HasFaultsNext : Stream → List (List ℕ) → List FaultValue → Type 0
-HasFaultsNext ts texts faults = (span : Span) × (faults ≡ map (λ text. (span, text)) texts) × IsNext ts span
+abbrev pub HasFaultsNext : Stream → List (List ℕ) → ErrorValue → Type 0
+HasFaultsNext ts texts error = (span : Span) × (error ≡ syntax_error (map (λ text. (span, text)) texts)) × IsNext ts span

@@ -122,7 +122,7 @@ impl<'a> ParseBuffer<'a> {
         }
     }
 
-    /// Continues at the position of the other buffer.
+    /// Continues at the position of the other buffer; the stack that is left stays.
     pub fn advance_to(&mut self, fork: &ParseBuffer<'a>)
         ensures { self.new ≡ fork.now }
     {
@@ -148,11 +148,18 @@ impl<'a> ParseBuffer<'a> {
         self.stack_left
     }
 
-    /// Limits the stack of the parsers to so many KiB.
-    pub fn set_stack_left(&mut self, kib: u32)
-        ensures { self.new ≡ self.old }
+    /// Another buffer at the same position, whose parsers may use so many KiB of stack. Nothing changes the stack of a buffer
+    /// afterwards: `advance_to` doesn't, and a group and a fork have that of their buffer.
+    pub fn with_stack_left(&self, kib: u32) -> ParseBuffer<'a>
+        ensures { result ≡ self.now }
     {
-        self.stack_left = kib;
+        ParseBuffer {
+            tokens: self.tokens.fork(),
+            end: self.end,
+            alloc: self.alloc,
+            stack_left: kib,
+            chains_fit: self.chains_fit,
+        }
     }
 
     /// Whether the chains in the remaining tokens (operators, postfixes and casts) were counted, and are short enough.
@@ -220,7 +227,7 @@ impl<'a> ParseBuffer<'a> {
     }
 
     /// The remaining tokens after the next tree; a lifetime counts as one tree.
-    fn past(&self) -> ParseBuffer<'a>
+    pub fn past(&self) -> ParseBuffer<'a>
         ensures { result ≡ past self.now }
     {
         let tokens = match self.tokens.split() {

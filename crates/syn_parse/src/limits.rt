@@ -1,6 +1,6 @@
 //! Limits of the stack that trees may take. The parser, print, copy, comparison and drop of a tree recurse once for each level
-//! of nesting. The stack counts as memory, and no contract covers it: a parser fails with refused memory if the nesting is too
-//! deep.
+//! of nesting. No contract covers the stack: if the nesting is too deep for it, a parser fails with an error of its own
+//! (`Refusal::TooDeep`).
 //!
 //! A buffer counts the KiB of stack that its parsers may still use (`ParseBuffer::stack_left`). Each level is charged with the
 //! frames of the costliest form of its kind in a trial build, which isn't optimized and has the largest frames, and some more

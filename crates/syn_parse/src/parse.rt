@@ -22,8 +22,8 @@ pub trait Parse: Syntactic {
     /// The least number of tokens that are consumed.
     ghost takes: { ℕ } = { 0 };
 
-    /// Parses a value from the front of the buffer. If the tokens don't match, or memory is refused, the buffer keeps its
-    /// position.
+    /// Parses a value from the front of the buffer. If the tokens don't match, memory is refused, or the nesting is too deep, the
+    /// buffer keeps its position.
     fn parse(input: &mut ParseBuffer<'_>) -> Result<Self>
         ensures outcome { Outcome IsSyntaxError Self.syntax form input.old result input.new }
         ensures reads { Computes IsSyntaxError Self.syntax (parse form input.old) result input.new }
@@ -52,8 +52,8 @@ impl<T: Read> Parse for T {
 }
 
 /// Parses a whole stream as a `T`; invisible groups are kept. Fails if the tokens are not a `T`, with a fault at an unexpected
-/// token; if tokens remain after a `T`, with `unexpected token` at the first of them; and if memory is refused.
-/// `syn_whole::parse2` opens invisible groups if it has to.
+/// token; if tokens remain after a `T`, with `unexpected token` at the first of them; if memory is refused; and if the nesting is
+/// too deep. `syn_whole::parse2` opens invisible groups if it has to.
 pub fn parse_whole<T: Parse + Drop>(tokens: &TokenStream) -> Result<T>
     ensures { WholeOutcome IsSyntaxError T.syntax T.form tokens.now result }
 {

@@ -4,7 +4,7 @@ use Rattle.std.specs.Prelude.{Result, Ok, Err, IfOk, IfErr, OnOk, MatchResult}
 use Rattle.syn_grammar.specs.Tokens.{Span, Stream, end, group}
 use Rattle.syn_tokens.specs.Spans.{at}
 use Rattle.syn_tokens.specs.Delimiters.{delimiter_of}
-use Rattle.syn_tokens.specs.Faults.{FaultValue}
+use Rattle.syn_tokens.specs.Faults.{ErrorValue, syntax_error, too_deep, out_of_memory}
 use Rattle.syn_tokens.specs.declared.delimiter.Delimiter.{Delimiter}
 use Rattle.syn_tokens.specs.declared.span.Span.{Span as TokenSpan}
 use Rattle.syn_tokens.specs.Building.{OpenGroup, Building, Closes, IsUnbalanced, unbalanced}
@@ -62,17 +62,18 @@ pub within_fewer : (n : ℕ) (os : List OpenGroup) (o : OpenGroup) → AllWithin
 within_fewer n [] o h = tt
 within_fewer n (x ∷ os) o h = (h.0, h.1, within_fewer n os o h.2)
 
-fault_within : (n : ℕ) (s : TokenSpan) (reason : Type 0) (e : List FaultValue) → s.start < s.end → s.end ≤ n → IsUnbalanced s reason e → IsFaultWithin n e
-fault_within n s reason [] l m h = tt
-fault_within n s reason (f ∷ fs) l m h = subst (IsFaultWithin n) (sym h.0) (l, m)
+fault_within : (n : ℕ) (s : TokenSpan) (reason : Type 0) (e : ErrorValue) → s.start < s.end → s.end ≤ n → IsUnbalanced s reason e → IsFaultWithin n e
+fault_within n s reason out_of_memory l m h = tt
+fault_within n s reason (too_deep t) l m h = absurd h
+fault_within n s reason (syntax_error fs) l m h = subst (IsFaultWithin n) (sym h.0) (l, m)
 
-pub closes_within : (r : Result (Unit {0}) (List FaultValue)) (n : ℕ) (d : Delimiter) (s : TokenSpan) (old new : Building) (reason : Type 0) → OnOk r (Closes d s old new)
+pub closes_within : (r : Result (Unit {0}) ErrorValue) (n : ℕ) (d : Delimiter) (s : TokenSpan) (old new : Building) (reason : Type 0) → OnOk r (Closes d s old new)
     → IfErr r (IsUnbalanced s reason) → AllWithin n old.open_groups → s.start < s.end → s.end ≤ n → MatchResult r (λ x. AllWithin n new.open_groups) (IsFaultWithin n)
 closes_within (Ok x) n d s old new reason h e w l m = rw h.is (within_fewer n h.around h.innermost (subst (AllWithin n) h.was w))
 closes_within (Err e) n d s old new reason h f w l m = fault_within n s reason e l m f
 
 -- no group is open
-pub finishes : (r : Result Stream (List FaultValue)) (n : ℕ) (b : Building) → AllWithin n b.open_groups
+pub finishes : (r : Result Stream ErrorValue) (n : ℕ) (b : Building) → AllWithin n b.open_groups
     → MatchResult r (λ stream. (b.open_groups ≡ []) × (b.stream ≡ stream)) (λ e. (g : OpenGroup) × (gs : List OpenGroup) × (b.open_groups ≡ g ∷ gs) × (e ≡ unbalanced g.opening))
     → MatchResult r (λ stream. flat stream ≡ tokens_around b.open_groups ++ flat b.stream) (IsFaultWithin n)
 finishes (Ok stream) n b w h = rw (h.0, h.1) refl
@@ -120,7 +121,7 @@ builds_more text old new i j p s (pieces, cut, same, within) blank piece e added
     )
 
 -- the same for a step that may fail
-pub builds_or_fault : {T : Type 0} (r : Result T (List FaultValue)) (text : List ℕ) (old new : TreeBuilder) (i j : ℕ) (p : Piece) (s : Span) → Builds text old i → IsBlank text i s.start
+pub builds_or_fault : {T : Type 0} (r : Result T ErrorValue) (text : List ℕ) (old new : TreeBuilder) (i j : ℕ) (p : Piece) (s : Span) → Builds text old i → IsBlank text i s.start
     → IsPieceAt text p s.start j → s.stop ≡ j → IfOk r (λ x. tokens_so_far new ≡ tokens_so_far old ++ tokens_of p s)
     → MatchResult r (λ x. AllWithin (length text) new.inner.open_groups) (IsFaultWithin (length text)) → MatchResult r (λ x. Builds text new j) (IsFaultWithin (length text))
 builds_or_fault (Ok x) text old new i j p s builds blank piece e added after = builds_more text old new i j p s builds blank piece e added after

@@ -3,7 +3,7 @@ use Rattle.std.proofs.Common.{◌≡◌, ℕ, List, [], ◌∷◌, ◌++◌, len
 use Rattle.syn_grammar.specs.Tokens.{Span, Stream, end, leaf, punct, group}
 use Rattle.syn_tokens.specs.Spans.{at}
 use Rattle.syn_tokens.specs.Delimiters.{delimiter_of}
-use Rattle.syn_tokens.specs.Faults.{FaultValue}
+use Rattle.syn_tokens.specs.Faults.{FaultValue, ErrorValue, syntax_error, too_deep, out_of_memory}
 use Rattle.syn_tokens.specs.declared.delimiter.Delimiter.{Delimiter}
 use Rattle.syn_tokens.specs.declared.delimiter.Delimiter.TheVariants as D
 use Rattle.syn_tokens.specs.declared.span.Span.{Span as TokenSpan}
@@ -100,8 +100,8 @@ not_last d b h (innermost before g e) =
 -- REFUSALS
 
 -- no piece starts after the tokens that were built so far
-pub lexical_refusal : (text : List ℕ) (b : TreeBuilder) (i : ℕ) (e : List FaultValue) → Builds text b i → FollowsAsFault text i e → IsRefusal text e
-lexical_refusal text b i [] builds h = tt
+pub lexical_refusal : (text : List ℕ) (b : TreeBuilder) (i : ℕ) (e : List FaultValue) → Builds text b i → FollowsAsFault text i e → IsRefusal text (syntax_error e)
+lexical_refusal text b i [] builds h = absurd h
 lexical_refusal text b i (f ∷ []) builds (blank, (starts, some, inside, (flaw, words, is))) =
     let read = read_blank text i (at f.0).start _ (builds_read text b i builds) blank in
     (flaw, words, placed text (signs b.inner.open_groups []) flaw (at f.0) read is)
@@ -115,16 +115,17 @@ lexical_refusal text b i (f ∷ []) builds (blank, (starts, some, inside, (flaw,
 lexical_refusal text b i (f ∷ g ∷ fs) builds (blank, h) = absurd h
 
 -- a closing delimiter that doesn't match the innermost open group
-pub closing_refusal : (text : List ℕ) (b : TreeBuilder) (i j : ℕ) (d : Delimiter) (s : TokenSpan) (e : List FaultValue) → Builds text b i → IsBlank text i s.start
+pub closing_refusal : (text : List ℕ) (b : TreeBuilder) (i j : ℕ) (d : Delimiter) (s : TokenSpan) (e : ErrorValue) → Builds text b i → IsBlank text i s.start
     → IsPieceAt text (closing (delimiter_of d)) s.start j → s.end ≡ j → IsUnbalanced s (NotOpen d b.inner) e → IsRefusal text e
-closing_refusal text b i j d s [] builds blank piece ends h = tt
-closing_refusal text b i j d s (f ∷ fs) builds blank piece ends (is, alone) =
+closing_refusal text b i j d s out_of_memory builds blank piece ends h = tt
+closing_refusal text b i j d s (too_deep t) builds blank piece ends h = absurd h
+closing_refusal text b i j d s (syntax_error fs) builds blank piece ends (is, alone) =
     let read = read_blank text i s.start _ (builds_read text b i builds) blank in
     let there = subst (λ n. IsPieceAt text (closing (delimiter_of d)) s.start n) (sym ends) piece in
     subst (IsRefusal text) (sym is) (stray_closing, refl, (delimiter_of d, signs b.inner.open_groups [], read, there, not_last d b.inner alone (last_of b.inner.open_groups)))
 
 -- a group that is open at the end of the text
-pub open_refusal : (text : List ℕ) (b : TreeBuilder) (i : ℕ) (e : List FaultValue) → Builds text b i → IsBlank text i (length text)
+pub open_refusal : (text : List ℕ) (b : TreeBuilder) (i : ℕ) (e : ErrorValue) → Builds text b i → IsBlank text i (length text)
     → IsOutermost b e → IsRefusal text e
 open_refusal text b i e builds blank (g, gs, groups, is) =
     let read = read_blank text i (length text) _ (builds_read text b i builds) blank in
@@ -132,16 +133,17 @@ open_refusal text b i e builds blank (g, gs, groups, is) =
     subst (IsRefusal text) (sym is) (open_group, refl, (delimiter_of g.delimiter, signs gs [], subst (IsReadTo text (length text)) outermost read))
 
 -- a lexical fault is within the text
-pub lexical_within : (text : List ℕ) (i : ℕ) (e : List FaultValue) → FollowsAsFault text i e → IsFaultWithin (length text) e
+pub lexical_within : (text : List ℕ) (i : ℕ) (e : List FaultValue) → FollowsAsFault text i e → IsFaultWithin (length text) (syntax_error e)
 lexical_within text i [] h = absurd h
 lexical_within text i (f ∷ []) (blank, (starts, some, inside, flaw)) = (some, inside)
 lexical_within text i (f ∷ g ∷ fs) (blank, h) = absurd h
 
 -- `]` closes a group that was opened by `[`
-pub closes_opened : (d : Delimiter) (s o : TokenSpan) (b : Building) (gs : List OpenGroup) (e : List FaultValue)
-    → ((outer : Stream) × (b.open_groups ≡ gs ++ record { delimiter = d; opening = o; outer = outer } ∷ [])) → IsUnbalanced s (NotOpen d b) e → e ≡ []
-closes_opened d s o b gs [] was h = refl
-closes_opened d s o b gs (f ∷ fs) (outer, is) (same, alone) = absurd (alone gs _ is refl)
+pub closes_opened : (d : Delimiter) (s o : TokenSpan) (b : Building) (gs : List OpenGroup) (e : ErrorValue)
+    → ((outer : Stream) × (b.open_groups ≡ gs ++ record { delimiter = d; opening = o; outer = outer } ∷ [])) → IsUnbalanced s (NotOpen d b) e → e ≡ out_of_memory
+closes_opened d s o b gs out_of_memory was h = refl
+closes_opened d s o b gs (too_deep t) was h = absurd h
+closes_opened d s o b gs (syntax_error fs) (outer, is) (same, alone) = absurd (alone gs _ is refl)
 
-pub memory_refusal : (text : List ℕ) (e : List FaultValue) → e ≡ [] → IsRefusal text e
+pub memory_refusal : (text : List ℕ) (e : ErrorValue) → e ≡ out_of_memory → IsRefusal text e
 memory_refusal text e is = subst (IsRefusal text) (sym is) tt

@@ -3,7 +3,7 @@ use Rattle.std.specs.Prelude.{◌≡◌, ◌<◌, ◌≤◌, ℕ, List, [], ◌�
 use Rattle.syn_tokens.specs.Spans.{at}
 use Rattle.syn_tokens.specs.Delimiters.{delimiter_of}
 use Rattle.syn_grammar.specs.Tokens.{Span}
-use Rattle.syn_tokens.specs.Faults.{FaultValue}
+use Rattle.syn_tokens.specs.Faults.{ErrorValue}
 use Rattle.syn_tokens.specs.Building.{OpenGroup, unbalanced}
 use Rattle.syn_reader.specs.declared.reader.trees.TreeBuilder.{TreeBuilder}
 use Rattle.syn_reader.specs.Flat.{Token, opened, flat}
@@ -28,5 +28,5 @@ abbrev pub Builds : List ℕ → TreeBuilder → ℕ → Type 0
 Builds text b j = (pieces : List (Piece × Span)) × IsCut text 0 pieces j × (tokens_so_far b ≡ all_tokens pieces) × AllWithin (length text) b.inner.open_groups
 
 -- a group is open, and the fault is at the delimiter of the outermost one
-abbrev pub IsOutermost : TreeBuilder → List FaultValue → Type 0
+abbrev pub IsOutermost : TreeBuilder → ErrorValue → Type 0
 IsOutermost b e = (g : OpenGroup) × (gs : List OpenGroup) × (b.inner.open_groups ≡ g ∷ gs) × (e ≡ unbalanced g.opening)

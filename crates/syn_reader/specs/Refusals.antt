@@ -4,7 +4,7 @@ use Rattle.std.specs.Char.{encode_utf8, is_not_whitespace}
 use Rattle.syn_grammar.specs.Tokens.{Span, Delimiter}
 use Rattle.syn_tokens.specs.Spans.{at}
 use Rattle.syn_tokens.specs.Idents.{may_start}
-use Rattle.syn_tokens.specs.Faults.{FaultValue}
+use Rattle.syn_tokens.specs.Faults.{FaultValue, ErrorValue, syntax_error, too_deep, out_of_memory}
 use Rattle.syn_reader.specs.Scanning.{following, literal_from, literal_at, Absent, Unclosed, begins_comment, after_comment}
 use Rattle.syn_reader.specs.Flat.{Token, one, punctuation, opened, closed}
 use Rattle.syn_reader.specs.Spelling.{Present, IsBlank, Piece, closing, opening_delimiter, closing_delimiter, begins_mark, IsPieceAt, IsCut, all_tokens}
@@ -91,8 +91,14 @@ abbrev pub FollowsAsFault : List ℕ → ℕ → List FaultValue → Type 0
 FollowsAsFault text i (f ∷ fs) = IsBlank text i (at f.0).start × IsLexicalFault text (at f.0).start (f ∷ fs)
 FollowsAsFault text i [] = ⊥
 
--- memory was refused, or there is one error in the text, with its message and at its span
-abbrev pub IsRefusal : List ℕ → List FaultValue → Type 0
-IsRefusal text [] = Unit {0}
-IsRefusal text (f ∷ []) = (flaw : Flaw) × (f.1 ≡ words_of flaw) × IsFlaw text flaw (at f.0)
-IsRefusal text (f ∷ g ∷ fs) = ⊥
+-- there is one error in the text, with its message and at its span
+abbrev pub IsOneFlaw : List ℕ → List FaultValue → Type 0
+IsOneFlaw text [] = ⊥
+IsOneFlaw text (f ∷ []) = (flaw : Flaw) × (f.1 ≡ words_of flaw) × IsFlaw text flaw (at f.0)
+IsOneFlaw text (f ∷ g ∷ fs) = ⊥
+
+-- memory was refused, or there is such an error
+abbrev pub IsRefusal : List ℕ → ErrorValue → Type 0
+IsRefusal text out_of_memory = Unit {0}
+IsRefusal text (too_deep s) = ⊥
+IsRefusal text (syntax_error fs) = IsOneFlaw text fs

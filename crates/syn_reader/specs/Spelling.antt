@@ -7,7 +7,7 @@ use Rattle.syn_tokens.specs.Spans.{at}
 use Rattle.syn_tokens.specs.Idents.{may_start, is_identifier}
 use Rattle.syn_tokens.specs.Punct.{is_punct_character}
 use Rattle.syn_tokens.specs.Literals.{kind_of}
-use Rattle.syn_tokens.specs.Faults.{FaultValue}
+use Rattle.syn_tokens.specs.Faults.{FaultValue, ErrorValue, syntax_error, too_deep, out_of_memory}
 use Rattle.syn_tokens.specs.declared.literal.LitKind.{LitKind}
 use Rattle.syn_reader.specs.Scanning.{following, first_passes, Absent, Scanned, literal_at, after_word, begins_comment, after_comment}
 use Rattle.syn_reader.specs.Docs.{IsDoc, IsNoDoc, quoted}
@@ -115,8 +115,14 @@ all_tokens ((p, s) ∷ ps) = tokens_of p s ++ all_tokens ps
 abbrev pub Spells : List ℕ → Stream → Type 0
 Spells text stream = (pieces : List (Piece × Span)) × IsCut text 0 pieces (length text) × (flat stream ≡ all_tokens pieces)
 
--- memory was refused, or there is one error, whose span is not empty and in a text of so many bytes
-abbrev pub IsFaultWithin : ℕ → List FaultValue → Type 0
-IsFaultWithin n [] = Unit {0}
-IsFaultWithin n (f ∷ []) = ((at f.0).start < (at f.0).stop) × ((at f.0).stop ≤ n)
-IsFaultWithin n (f ∷ g ∷ fs) = ⊥
+-- there is one fault, whose span is not empty and in a text of so many bytes
+abbrev pub IsOneWithin : ℕ → List FaultValue → Type 0
+IsOneWithin n [] = ⊥
+IsOneWithin n (f ∷ []) = ((at f.0).start < (at f.0).stop) × ((at f.0).stop ≤ n)
+IsOneWithin n (f ∷ g ∷ fs) = ⊥
+
+-- memory was refused, or there is such a fault
+abbrev pub IsFaultWithin : ℕ → ErrorValue → Type 0
+IsFaultWithin n out_of_memory = Unit {0}
+IsFaultWithin n (too_deep s) = ⊥
+IsFaultWithin n (syntax_error fs) = IsOneWithin n fs

@@ -1,5 +1,5 @@
 -- What types, their arguments, attributes, expressions and statements begin with.
-use Rattle.std.proofs.Common.{◌≡◌, ℕ, false, List, [], ◌∷◌, refl, sym, subst}
+use Rattle.std.proofs.Common.{◌≡◌, ℕ, false, [], ◌∷◌, refl, sym, subst}
 use Rattle.syn_grammar.specs.Tokens.{Paren}
 use Rattle.syn_grammar.specs.Rules.{after_block, after_expression, expression_words, macro_invocation, member, postfixes, statement_rest, whole_expression, generic_argument, generic_arguments, meta, meta_value, module_path, module_words, path_as_type, type, type_arguments, type_path, type_words, types}
 use Rattle.syn_grammar.specs.Grammar.{Grammar, empty, ◌&◌, when◌then◌else◌, inside, mark, name, name_or, rule, shaped, token}

@@ -1,8 +1,8 @@
 -- What is written on a course is what is written of what its plan reads.
-use Rattle.std.proofs.Common.{◌≡◌, Bool, true, false, Option, [], ◌∷◌, Some, None, refl, sym, ap, ◌∙◌, subst}
+use Rattle.std.proofs.Common.{◌≡◌, Bool, true, false, Option, [], Some, None, refl, sym, ap, ◌∙◌, subst}
 use Rattle.syn_grammar.specs.Tokens.{Stream, end, ◌⧺◌, pick, Look}
 use Rattle.syn_grammar.specs.Rules.{Rule}
-use Rattle.syn_grammar.specs.Grammar.{Syntax, Nothing, Node, Case, Captured, Grammar, empty, ◌&◌, when◌then◌else◌, one_of}
+use Rattle.syn_grammar.specs.Grammar.{Syntax, Grammar, empty, ◌&◌, when◌then◌else◌, one_of}
 use Rattle.syn_grammar.specs.Take.{Out, Parser, sees, before}
 use Rattle.syn_grammar.specs.Run.{parse_form}
 use Rattle.syn_grammar.specs.Plan as plan
@@ -11,16 +11,15 @@ use Rattle.syn_grammar.proofs.Streams.{append_end, append_append}
 use Rattle.syn_recognize.specs.Within.{first, second}
 use Rattle.syn_recognize.specs.PrintedRows.{way}
 use Rattle.syn_recognize.specs.Written.{Written, adds, changed, drops, drops_in}
-use Rattle.syn_recognize.specs.Copies.{Copy, Reached, Refused, Stuck, Leads, copied, next, copy_form, capturing}
-use Rattle.syn_recognize.specs.Course.{Course, reads, turns, rooted, followed, rest, kept, lists, led, self_type}
-use Rattle.syn_recognize.specs.Courses.{Fair, copy_kept, copy_course, settled}
+use Rattle.syn_recognize.specs.Copies.{Copy, Reached, Refused, Stuck, copied, next, copy_form, capturing}
+use Rattle.syn_recognize.proofs.GuessedCourses.{Fair, Leads, copy_course, copy_kept, leads_same}
+use Rattle.syn_recognize.specs.Course.{Course, reads, turns, rooted, rest, kept, lists}
 use Rattle.syn_tokens.specs.Building.{Building, added}
 use Rattle.syn_grammar.specs.Shape.{untagged as no-tag}
 use Rattle.syn_grammar.specs.Values.{untag}
 use Rattle.syn_recognize.proofs.Copied.{empty_is, then_is, when_is}
 use Rattle.syn_recognize.proofs.Ways.{way_shape}
 use Rattle.syn_recognize.proofs.Writes.{adds_more, adds_nothing}
-use Rattle.syn_recognize.proofs.Todo.{leads_same}
 
 -- A FORM is read as a plan that doesn't store verbatim: the output is what was written (i), and then the text of the plan's value
 abbrev pub Flat : Bool → Grammar → Plan → Stream → Stream → Type 0

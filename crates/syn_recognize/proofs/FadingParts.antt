@@ -1,12 +1,12 @@
 -- Parts that aren't printed where their list is empty.
 use Rattle.std.proofs.Common.{◌≡◌, Bool, true, false, Some, None, refl, sym, ap, ap₂, ◌∙◌, subst, true≢false}
 use Rattle.syn_grammar.specs.Words.{colon, comma, less, greater, w_where}
-use Rattle.syn_grammar.specs.Tokens.{Stream, Look, Leaf, ident, literal, end, and, no, pick, same_text, at_lifetime}
+use Rattle.syn_grammar.specs.Tokens.{Stream, Look, Leaf, ident, literal, end, and, no, pick, same_text}
 use Rattle.syn_grammar.specs.Rules.{lifetimes, parameter_bounds, predicates, supertraits, type_bounds, lifetime_parameter}
-use Rattle.syn_grammar.specs.Grammar.{Syntax, Nothing, Token, Both, Left, Right, Node, Vanishing, Order, Done, Last, More, bare, bare_leaf, word, fits, show, renew, at_row_comma, Grammar, ◌&◌, rule, ordered, vanishing, at_row_end}
+use Rattle.syn_grammar.specs.Grammar.{Syntax, Nothing, Both, Left, Right, Node, Vanishing, Order, Done, Last, More, bare, bare_leaf, word, fits, show, renew, at_row_comma, Grammar, ◌&◌, rule, ordered, vanishing, at_row_end}
 use Rattle.syn_grammar.specs.Table.{table, parameter, at_parameter_end, at_predicate_end, at_supertraits_end, at_type_bounds_end}
 use Rattle.syn_grammar.specs.Take.{Out, sees, take_mark}
-use Rattle.syn_grammar.specs.Run.{and_then, branch, first_of, parse_form, parse_rule, vanish, wrap, rows, row_opened, row_closed, close_row, row_member, row_after, row_comma, marks_of, last, more, span_of}
+use Rattle.syn_grammar.specs.Run.{and_then, branch, first_of, parse_form, parse_rule, vanish, wrap, rows, row_opened, row_closed, close_row, row_member, row_after, row_comma, marks_of, span_of}
 use Rattle.syn_grammar.proofs.Each.{lifetimes_is, parameter_bounds_is, predicates_is, supertraits_is, type_bounds_is}
 use Rattle.syn_grammar.proofs.Run.{inv_wrap, inv_then}
 use Rattle.syn_grammar.proofs.Takes.{TreeAndRest, mark_known, token_known}

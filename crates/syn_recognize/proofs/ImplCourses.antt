@@ -1,12 +1,12 @@
 -- The course of an impl after `impl` writes what its plan writes.
-use Rattle.std.proofs.Common.{◌≡◌, Bool, true, false, Option, [], ◌∷◌, Some, None, refl, sym, ap, ap₂, ◌∙◌, subst, true≢false}
+use Rattle.std.proofs.Common.{◌≡◌, Bool, true, false, Option, [], ◌∷◌, Some, None, refl, sym, ap, ◌∙◌, subst, true≢false}
 use Rattle.syn_grammar.specs.Words.{less, greater, exclamation, w_for}
-use Rattle.syn_grammar.specs.Tokens.{Stream, end, ◌⧺◌, or, pick, at_generics}
-use Rattle.syn_grammar.specs.Rules.{Rule, lifetime_parameter, type, type_path, for_self_type, impl_body}
+use Rattle.syn_grammar.specs.Tokens.{Stream, ◌⧺◌, or, pick, at_generics}
+use Rattle.syn_grammar.specs.Rules.{Rule, type, type_path, for_self_type, impl_body}
 use Rattle.syn_grammar.specs.Grammar.{Syntax, Nothing, Both, Left, Right, Order, Done, Impl, bare, led, renew, show, no_generics, Grammar, empty, mark, word, ◌&◌, when◌then◌else◌, rule, at_row_end}
 use Rattle.syn_grammar.specs.Forms.{punctuation}
 use Rattle.syn_grammar.specs.Table.{at_brace, at_exclamation, at_for, at_module_path, kept_generics}
-use Rattle.syn_grammar.specs.Take.{Out, Parser, sees, taken, take_mark, take_token}
+use Rattle.syn_grammar.specs.Take.{Out, sees, taken, take_mark, take_token}
 use Rattle.syn_grammar.specs.Run.{branch, parse_form, rows, row_opened, row_closed, close_row, marks_of, wrap}
 use Rattle.syn_grammar.specs.Plan as plan
 use Rattle.syn_grammar.specs.Plan.{Plan, follow, by_test, run_plan}
@@ -20,17 +20,17 @@ use Rattle.syn_recognize.specs.declared.list.List.TheVariants as List-m
 use Rattle.syn_recognize.specs.Ordered.{member}
 use Rattle.syn_recognize.specs.PrintedRows.{way}
 use Rattle.syn_recognize.specs.Written.{Written, adds}
-use Rattle.syn_recognize.specs.Copies.{Copy, Reached, Refused, Stuck, Leads, copied, next, copy_form, capturing}
+use Rattle.syn_recognize.specs.Copies.{Copy, Refused, copied, next, copy_form, capturing}
+use Rattle.syn_recognize.proofs.GuessedCourses.{Fair, Leads, copy_course, copy_kept, guessed_generics, guessed_lists, leads_same, led_by}
 use Rattle.syn_recognize.specs.Course.{Course, reads, turns, rest, kept, lists, led as following-generics, self_type}
-use Rattle.syn_recognize.specs.Courses.{Fair, copy_kept, copy_course, led_by, guessed_lists, guessed_generics, no_parameters, shown_generics, impl_parameters}
-use Rattle.syn_recognize.proofs.Todo.{leads_same}
+use Rattle.syn_recognize.specs.Courses.{no_parameters, shown_generics}
 use Rattle.syn_recognize.proofs.Writes.{adds_more}
-use Rattle.syn_recognize.proofs.Ways.{way_left, way_right, way_both, way_nothing}
+use Rattle.syn_recognize.proofs.Ways.{way_left, way_right, way_nothing}
 use Rattle.syn_recognize.proofs.Lists.{none_present}
 use Rattle.syn_recognize.proofs.FadingParts.{parameters_never}
-use Rattle.syn_recognize.proofs.Guessed.{generics_present, generics_lack}
+use Rattle.syn_recognize.proofs.Drafts.{generics_present, generics_lack}
 use Rattle.syn_recognize.proofs.ImplGenerics.{none_absent, none_bare, none_open, none_refused, some_kept}
-use Rattle.syn_recognize.proofs.CourseProofs.{Flat, Kept, Written-as, Kept-as, Meets, reads_written, turns_written, rest_written, kept_written, reads_kept, turns_kept, kept_is}
+use Rattle.syn_recognize.proofs.CourseProofs.{Kept, Written-as, Kept-as, Meets, reads_written, turns_written, rest_written, kept_written, reads_kept, turns_kept, kept_is}
 
 -- WHAT IS KNOWN of a guess (of how generics without parameters are printed): it was settled, since generics would be read (z); or they wouldn't so far
 abbrev Known : Option Bool → Option Bool → Bool → Type 0

@@ -1,16 +1,16 @@
 -- The generics of an impl, where they are printed by a guess.
-use Rattle.std.proofs.Common.{◌≡◌, Bool, true, false, Option, Some, None, [], ◌∷◌, refl, sym, ap, ◌∙◌}
+use Rattle.std.proofs.Common.{◌≡◌, Bool, true, false, Option, Some, None, [], ◌∷◌, refl, ap, ◌∙◌}
 use Rattle.syn_grammar.specs.Words.{less, greater}
 use Rattle.syn_grammar.specs.Tokens.{Span, Stream, end, punct, ◌⧺◌, pick, at_generics}
 use Rattle.syn_grammar.specs.Grammar.{Syntax, Mark, at_row_end}
 use Rattle.syn_grammar.specs.Take.{sees, take_mark}
-use Rattle.syn_tokens.specs.Spans.{at}
 use Rattle.syn_recognize.specs.PrintedRows.{way}
 use Rattle.syn_recognize.specs.Written.{Written, adds}
 use Rattle.syn_recognize.specs.Copies.{Copy, Refused, next, copy_form}
-use Rattle.syn_recognize.specs.Courses.{ends_next, no_parameters, guessed_generics, guessed_lists, impl_parameters, printed_generics, written_generics}
+use Rattle.syn_recognize.proofs.GuessedCourses.{guessed_generics, guessed_lists}
+use Rattle.syn_recognize.specs.Courses.{ends_next, no_parameters, impl_parameters}
 use Rattle.syn_recognize.proofs.FadingParts.{generics_absent, generics_bare, generics_open, generics_kept, generics_refused}
-use Rattle.syn_recognize.proofs.Writes.{adds_more, adds_none}
+use Rattle.syn_recognize.proofs.Writes.{adds_more}
 
 module _ (x : Bool) (P : Option Bool → Written → Stream → Copy) (w : Written) (ts : Stream) where
   by_empty : (b : Bool) → no_parameters ts ≡ b → guessed_lists (no_parameters ts) x P w ts ≡ guessed_lists b x P w ts

@@ -1,5 +1,5 @@
 -- Levels of operators: what an expression is made of, and where a level reads nothing.
-use Rattle.std.proofs.Common.{◌≡◌, ℕ, zero, suc, ◌+◌, ◌-◌, ◌<◌, ◌≤◌, Bool, true, false, List, [], ◌∷◌, ◌++◌, Result, nat_eq, ◌⊎◌, inl, inr, refl, sym, ap, subst, ◌∙◌, true≢false, arith}
+use Rattle.std.proofs.Common.{◌≡◌, ℕ, zero, suc, ◌+◌, ◌-◌, ◌<◌, ◌≤◌, Bool, true, false, List, [], ◌∷◌, ◌++◌, length, Result, nat_eq, ◌⊎◌, inl, inr, refl, sym, ap, subst, ◌∙◌, true≢false, arith}
 use Rattle.std.proofs.lemmas.Bool.{eqb-true}
 use Rattle.syn_grammar.specs.Tokens.{Stream, and, no, or, pick}
 use Rattle.syn_grammar.proofs.Sets.{no_true, and_left, and_right, or_split}
@@ -262,6 +262,19 @@ nothing_after (suc k) n f w ts b e =
 pub passes_ended : (n k : ℕ) (f : First) → ends f ≡ true → Passes n k k f
 unfolding Passes
 passes_ended n k f e = λ w ts b. nothing_after (k - n) n f w ts b e ∙ sym (none_left k k w ts (omega arith))
+
+-- THERE ARE 24 LEVELS: after them nothing is read
+beyond : (h : Rule → Grammar) (ks : List Rail) (n : ℕ) → length ks ≤ n → at_level h ks n ≡ finished
+beyond h [] n e = refl
+beyond h (k ∷ ks) zero e = absurd (more_than_none (length ks) e)
+  where
+    more_than_none : (m : ℕ) → suc m ≤ 0 → ⊥
+    more_than_none m e = omega (arith, e)
+beyond h (k ∷ ks) (suc n) e = beyond h ks n (omega (arith, e))
+
+pub level_past : (n : ℕ) → 24 ≤ n → level_form n ≡ finished
+unfolding level_form
+level_past n e = beyond table ladder n e
 
 -- WHAT IS READ BY LEVELS
 

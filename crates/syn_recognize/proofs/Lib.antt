@@ -11,14 +11,16 @@ pub mod Lists
 pub mod Solid
 pub mod FadingParts
 pub mod WrittenAside
+pub mod GuessedCourses
 pub mod CourseProofs
-pub mod Guessed
+pub mod Drafts
 pub mod RootMarks
 pub mod ImplGenerics
 pub mod ImplCourses
 pub mod SmallCourses
 pub mod PlannedCourses
 pub mod StatementCourses
+pub mod PlannedAside
 pub mod PlanBegins
 pub mod Ends
 pub mod Trailing
@@ -33,6 +35,9 @@ pub mod TypeLooks
 pub mod Restricted
 pub mod Nameless
 pub mod PathLooks
+pub mod Passed
+pub mod PrintedGenerics
+pub mod Stops
 pub mod ItemLooks
 pub mod ParameterLooks
 pub mod MacroLooks

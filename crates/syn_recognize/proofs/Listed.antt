@@ -1,9 +1,9 @@
 -- Statements, where the first begins with a word and has no attribute: if no item is next, it is one that isn't stored verbatim.
 use Rattle.std.proofs.Common.{◌≡◌, Bool, true, false, [], ◌∷◌, Some, None, refl, sym, ap, subst, ◌∙◌, true≢false}
 use Rattle.syn_grammar.specs.Tokens.{Stream, pick}
-use Rattle.syn_grammar.specs.Rules.{Rule, attributes, kept_in_block, statement_rest, statements}
+use Rattle.syn_grammar.specs.Rules.{attributes, kept_in_block, statement_rest, statements}
 use Rattle.syn_grammar.specs.Shape.{an_item}
-use Rattle.syn_grammar.specs.Grammar.{Left, Right, Grammar, ◌&◌, either, one_of, rule, shaped, when◌then◌else◌}
+use Rattle.syn_grammar.specs.Grammar.{Right, Grammar, ◌&◌, either, one_of, rule, shaped, when◌then◌else◌}
 use Rattle.syn_grammar.specs.Table.{table, at_item}
 use Rattle.syn_grammar.specs.Take.{Out, sees}
 use Rattle.syn_grammar.specs.Run.{first_of, parse_form}

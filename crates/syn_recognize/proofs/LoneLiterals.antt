@@ -20,8 +20,6 @@ use Rattle.syn_parse.proofs.Literals.{no_literal_seen}
 use Rattle.syn_parse.proofs.Words.{take_literal}
 use Rattle.syn_recognize.specs.Copies.{least}
 use Rattle.syn_recognize.specs.DeferredTokens.{kind_rule}
-use Rattle.syn_parse.specs.Refusals.{IsSyntax}
-use Rattle.syn_parse.specs.declared.read.refusal.Refusal.{Refusal}
 use Rattle.syn_recognize.specs.LoneLiterals.{is_over, is_lone_literal, ShowsLiteral}
 use Rattle.syn_recognize.specs.Printed.{ShowsAndPrints}
 use Rattle.syn_recognize.specs.declared.reading.ShownAndPrinted.{ShownAndPrinted}
@@ -300,6 +298,6 @@ lone_moved (suc (suc (suc zero))) ts r h = omega (arith, h)
 lone_moved (suc (suc (suc (suc n)))) ts r h = omega (arith, h)
 
 -- so the literal's promise is the tree's
-pub lone_promised : (n : ℕ) (ts : Stream) (result : Result ShownAndPrinted Refusal) (r : Stream) → is_lone_literal n ts ≡ true → ShowsLiteral IsSyntax ts result r → ShowsAndPrints IsSyntax (kind_rule n) ts result r
-lone_promised n ts (Ok tokens) r h a = lone_read n ts r tokens.shown tokens.printed h a
-lone_promised n ts (Err e) r h a = λ f. lone_refused n ts h (a f)
+pub lone_promised : {E : Type 0} (refusal : E → Type 0) (n : ℕ) (ts : Stream) (result : Result ShownAndPrinted E) (r : Stream) → is_lone_literal n ts ≡ true → ShowsLiteral refusal ts result r → ShowsAndPrints refusal (kind_rule n) ts result r
+lone_promised refusal n ts (Ok tokens) r h a = lone_read n ts r tokens.shown tokens.printed h a
+lone_promised refusal n ts (Err e) r h a = λ f. lone_refused n ts h (a f)

@@ -4,13 +4,15 @@ use Rattle.std.proofs.lemmas.Bool.{eqb-true}
 use Rattle.syn_grammar.specs.Words.{Text, keywords, contextual, colon, exclamation, less, pound, w_async, w_auto, w_const, w_crate, w_default, w_mut, w_self, w_Self_type, w_static, w_super, w_union, w_unsafe}
 use Rattle.syn_grammar.specs.Tokens.{Span, Delimiter, Paren, Brace, Bracket, None as Invisible, LitKind, Stream, end, leaf, punct, group, ident, literal, or, and, pick, same_text, one_of_texts, has_fact, same_fact, Fact, Before_colons, Before_macro, Before_own_self, Begins_item, Not_item, Asked, asked, asked_by_mark, asked_by_word, asked_inside, facts_for, Lookahead, lookahead, lookahead_with, punctuation_facts, punctuation_lookahead, lone_facts, char_terminal, answers, Terminal, Ended, Name, Word, Punctuation, Literal, Delimited, at_path_word, ahead, ◌and_also◌}
 use Rattle.syn_grammar.specs.Grammar.{Syntax}
-use Rattle.syn_grammar.specs.Take.{Out, sees, lookahead_at, take_mark, taken, only, marked}
+use Rattle.syn_grammar.specs.Take.{Out, sees, lookahead_at, take_mark, only, marked}
 use Rattle.syn_grammar.specs.Table.{at_colon, at_colons, at_lone_colon, at_macro}
 use Rattle.syn_grammar.proofs.Looks.{sees_one}
 use Rattle.syn_grammar.proofs.Sets.{same_text_eq}
 use Rattle.syn_parse.specs.Peeks.{past}
 use Rattle.syn_recognize.proofs.Facts.{asks, not_known, reported_first}
-use Rattle.syn_recognize.proofs.PathLooks.{face, is_path_word, macro_from, others, passed, word_settles}
+use Rattle.syn_recognize.specs.ItemLooks.{macro_from}
+use Rattle.syn_recognize.proofs.PathLooks.{face, is_path_word, others, passed, word_settles}
+use Rattle.syn_recognize.proofs.Passed.{mark_passed}
 
 or_none : (b : Bool) → or b false ≡ b
 or_none true = refl
@@ -257,7 +259,7 @@ left_of : Out → Stream
 left_of (Some p) = p.1
 left_of None = end
 
-pub single_colon : (ts : Stream) (s : Syntax) (m : Stream) → sees at_lone_colon ts ≡ true → take_mark colon ts ≡ Some (s, m) → sees (ahead Before_macro) ts ≡ macro_from m
+single_colon : (ts : Stream) (s : Syntax) (m : Stream) → sees at_lone_colon ts ≡ true → take_mark colon ts ≡ Some (s, m) → sees (ahead Before_macro) ts ≡ macro_from m
 unfolding take_mark left_of
 single_colon end s m h e = absurd (cc e)
 single_colon (leaf x sp r) s m h e = absurd (cc e)
@@ -268,9 +270,9 @@ single_colon (punct c j sp r) s m h e = go (nat_eq c 58) refl h e
     go true p h e = subst (λ z. sees at_lone_colon (punct z j sp r) ≡ true → sees (ahead Before_macro) (punct z j sp r) ≡ macro_from r) (sym (eqb-true c 58 p)) (at_single j sp r) h ∙ ap macro_from (ap left_of e)
     go false p h e = absurd (cc e)
 
-pub colon_read : (ts : Stream) → sees at_lone_colon ts ≡ true → take_mark colon ts ≡ None → ⊥
+pub colon_passed : (ts : Stream) → sees at_lone_colon ts ≡ true → sees (ahead Before_macro) ts ≡ macro_from (past ts)
 unfolding sees
-colon_read ts h e = true≢false (sym (left_true (sees at_colon ts) _ h) ∙ sees_one 58 ts ∙ ap taken e)
+colon_passed ts h = let p = mark_passed 58 refl ts (sym (sees_one 58 ts) ∙ left_true (sees at_colon ts) _ h) in single_colon ts p.0 (past ts) h p.1
   where
     left_true : (a b : Bool) → and a b ≡ true → a ≡ true
     left_true true b h = refl

@@ -3,9 +3,8 @@ use Rattle.std.proofs.Common.{◌≡◌, ℕ, Bool, true, false, List, [], ◌�
 use Rattle.std.proofs.lemmas.Bool.{eqb-true}
 use Rattle.syn_grammar.specs.Words.{Text, keywords, contextual, colons, exclamation, not_equals, less, w_crate, w_self, w_Self_type, w_super, w_union, w_auto, w_default, w_safe}
 use Rattle.syn_grammar.specs.Tokens.{Span, Delimiter, LitKind, Stream, end, leaf, punct, group, ident, literal, Paren, or, and, no, pick, same_text, one_of_texts, has_fact, same_fact, Fact, Before_end, Before_colons, Before_equals, Before_paren, Before_less, Before_type_rest, Before_macro, Before_brace, Begins_item, Bang_brace, Bang_name, Asked, asked, asked_by_name, asked_by_path_word, asked_of_path, at_path_rest, at_path_word, facts_for, Lookahead, lookahead, lookahead_with, punctuation_lookahead, answers, is_name, is_word, leaf_terminal, Terminal, Ended, Name, Word, Punctuation, Literal, Delimited, Look, at_mark, at_name, at_word, at_group, ahead, ◌or_else◌, ◌and_also◌, ◌but_not◌}
-use Rattle.syn_grammar.specs.Grammar.{Kind, name, word, name_or, Syntax, Nothing, Token, Left, fits}
+use Rattle.syn_grammar.specs.Grammar.{Kind, name, word, name_or, Syntax, Token, fits}
 use Rattle.syn_grammar.specs.Take.{Out, sees, lookahead_at, take_mark, take_token, taken, only}
-use Rattle.syn_grammar.specs.Run.{branch, wrap}
 use Rattle.syn_grammar.specs.Table.{at_bang, at_brace, at_brace_macro, at_colons, at_crate_macro, at_less, at_lone_crate, at_macro, at_macro_name, at_paren, at_pattern_path, at_turbofish}
 use Rattle.syn_grammar.proofs.Sets.{same_text_eq}
 use Rattle.syn_grammar.proofs.Looks.{sees_mark, sees_name, sees_word}
@@ -14,7 +13,7 @@ use Rattle.syn_tokens.specs.Leaves.{is_known_word}
 use Rattle.syn_parse.specs.FirstTokens.{path_words}
 use Rattle.syn_parse.specs.Peeks.{past}
 use Rattle.syn_parse.proofs.Words.{fits_name, fits_name_or, fits_word}
-use Rattle.syn_recognize.specs.ItemLooks.{at_named_macro}
+use Rattle.syn_recognize.specs.ItemLooks.{at_named_macro, brace_macro_from, macro_from, named_macro_from}
 use Rattle.syn_recognize.proofs.Facts.{and_same, reported_first, word_face}
 
 -- WHAT A WORD OF A PATH STATES
@@ -180,7 +179,7 @@ module _ (n : Fact) (c : Look) (lone : (f : Lookahead) → has_fact n (facts_for
   known_after true sp sq m = after_joint (lookahead m).terminal (lookahead m).facts
 
 -- `::` is next
-abbrev Colons : Stream → Stream → Type 0
+abbrev pub Colons : Stream → Stream → Type 0
 Colons ts m = (sp : Span) × (j : Bool) × (sq : Span) × (ts ≡ punct 58 true sp (punct 58 j sq m))
 
 second_colon : (sp : Span) (n : Stream) → taken (take_mark colons (punct 58 true sp n)) ≡ true → Colons (punct 58 true sp n) (past n)
@@ -346,16 +345,6 @@ crate_macro_seen ts = and_same (sees at_lone_crate ts) _ _ (λ h. of_lone (sees 
 
 -- ALONG A PATH, UP TO ITS `!`
 
--- a macro whose path continues here; one with braces; and one with a name
-abbrev pub macro_from : Stream → Bool
-macro_from ts = and (sees at_path_word ts) (sees (ahead Before_macro) ts)
-
-abbrev pub brace_macro_from : Stream → Bool
-brace_macro_from ts = and (sees at_path_word ts) (sees (ahead Bang_brace) ts)
-
-abbrev pub named_macro_from : Stream → Bool
-named_macro_from ts = and (sees at_path_word ts) (sees (ahead Bang_name) ts)
-
 abbrev Goes : Stream → Stream → Type 0
 Goes ts m = (sees (ahead Before_macro) ts ≡ macro_from m) × (sees (ahead Bang_brace) ts ≡ brace_macro_from m) × (sees (ahead Bang_name) ts ≡ named_macro_from m)
 
@@ -383,7 +372,7 @@ after_colons ts s m e = go (colons_left ts s m e)
     )
 
 -- a word that was taken
-word_left : (k : Kind) (ts : Stream) (s : Syntax) (m : Stream) → take_token k ts ≡ Some (s, m) → past ts ≡ m
+pub word_left : (k : Kind) (ts : Stream) (s : Syntax) (m : Stream) → take_token k ts ≡ Some (s, m) → past ts ≡ m
 unfolding take_token
 word_left k end s m e = absurd (cc e)
 word_left k (leaf x sp r) s m e = go (fits k x) e
@@ -437,51 +426,36 @@ module _ (k : Kind) (ts : Stream) (s : Syntax) (m : Stream) (word : sees at_path
   )
 
 -- where it begins
-abbrev Begins : Stream → Stream → Type 0
+abbrev pub Begins : Stream → Stream → Type 0
 Begins ts m = (sees at_macro ts ≡ macro_from m) × (sees at_brace_macro ts ≡ brace_macro_from m) × (sees at_named_macro ts ≡ named_macro_from m)
 
--- perhaps with `::`
-pub path_begins : (ts : Stream) (s : Syntax) (m : Stream) → branch (sees at_colons ts) (take_mark colons ts) (Some (Nothing, ts)) ≡ Some (s, m) → Begins ts m
+-- with `::`
+pub begins_after : (ts : Stream) (s : Syntax) (m : Stream) → sees at_colons ts ≡ true → take_mark colons ts ≡ Some (s, m) → Begins ts m
 unfolding sees
-path_begins ts s m e = go (sees at_colons ts) refl e
+begins_after ts s m h at = (
+  ap (λ b. and (or (sees at_path_word ts) b) (sees (ahead Before_macro) ts)) h ∙ or_true (sees at_path_word ts) _ ∙ (after_colons ts s m at).0,
+  ap (λ b. and (or (sees at_path_word ts) b) (sees (ahead Bang_brace) ts)) h ∙ or_true (sees at_path_word ts) _ ∙ (after_colons ts s m at).1,
+  ap (λ b. and (or (sees at_path_word ts) b) (sees (ahead Bang_name) ts)) h ∙ or_true (sees at_path_word ts) _ ∙ (after_colons ts s m at).2,
+)
   where
     or_true : (a c : Bool) → and (or a true) c ≡ c
     or_true true c = refl
     or_true false c = refl
 
+-- without it
+pub begins_here : (ts : Stream) → sees at_colons ts ≡ false → Begins ts ts
+unfolding sees
+begins_here ts h = (
+  ap (λ b. and (or (sees at_path_word ts) b) (sees (ahead Before_macro) ts)) h ∙ or_false (sees at_path_word ts) _,
+  ap (λ b. and (or (sees at_path_word ts) b) (sees (ahead Bang_brace) ts)) h ∙ or_false (sees at_path_word ts) _,
+  ap (λ b. and (or (sees at_path_word ts) b) (sees (ahead Bang_name) ts)) h ∙ or_false (sees at_path_word ts) _,
+)
+  where
     or_false : (a c : Bool) → and (or a false) c ≡ and a c
     or_false true c = refl
     or_false false c = refl
 
-    with_colons : (o : Out) → take_mark colons ts ≡ o → sees at_colons ts ≡ true → wrap Left o ≡ Some (s, m) → Begins ts m
-    with_colons (Some p) q h e =
-        let at : take_mark colons ts ≡ Some (p.0, m) = q ∙ ap (λ z. Some (p.0, z)) (ap rest e) in (
-          ap (λ b. and (or (sees at_path_word ts) b) (sees (ahead Before_macro) ts)) h ∙ or_true (sees at_path_word ts) _ ∙ (after_colons ts p.0 m at).0,
-          ap (λ b. and (or (sees at_path_word ts) b) (sees (ahead Bang_brace) ts)) h ∙ or_true (sees at_path_word ts) _ ∙ (after_colons ts p.0 m at).1,
-          ap (λ b. and (or (sees at_path_word ts) b) (sees (ahead Bang_name) ts)) h ∙ or_true (sees at_path_word ts) _ ∙ (after_colons ts p.0 m at).2,
-        )
-    with_colons None q h e = absurd (cc e)
-
-    go : (b : Bool) → sees at_colons ts ≡ b → branch b (take_mark colons ts) (Some (Nothing, ts)) ≡ Some (s, m) → Begins ts m
-    go true h e = with_colons (take_mark colons ts) refl h e
-    go false h e = (
-      ap (λ b. and (or (sees at_path_word ts) b) (sees (ahead Before_macro) ts)) h ∙ or_false (sees at_path_word ts) _ ∙ ap macro_from (ap rest e),
-      ap (λ b. and (or (sees at_path_word ts) b) (sees (ahead Bang_brace) ts)) h ∙ or_false (sees at_path_word ts) _ ∙ ap brace_macro_from (ap rest e),
-      ap (λ b. and (or (sees at_path_word ts) b) (sees (ahead Bang_name) ts)) h ∙ or_false (sees at_path_word ts) _ ∙ ap named_macro_from (ap rest e),
-    )
-
 -- WHAT IS READ WHERE IT IS NEXT
-
-pub leading_read : (ts : Stream) → branch (sees at_colons ts) (take_mark colons ts) (Some (Nothing, ts)) ≡ None → ⊥
-leading_read ts e = go (sees at_colons ts) (take_mark colons ts) (sees_mark colons refl ts) e
-  where
-    go : (b : Bool) (o : Out) → b ≡ taken o → branch b o (Some (Nothing, ts)) ≡ None → ⊥
-    go true (Some p) h e = cc e
-    go true None h e = true≢false h
-    go false o h e = cc e
-
-pub colons_read : (ts : Stream) → sees at_colons ts ≡ true → take_mark colons ts ≡ None → ⊥
-colons_read ts h e = true≢false (sym h ∙ sees_mark colons refl ts ∙ ap taken e)
 
 known : (is_known_word w_self ≡ true) × (is_known_word w_Self_type ≡ true) × (is_known_word w_super ≡ true) × (is_known_word w_crate ≡ true)
 unfolding is_known_word

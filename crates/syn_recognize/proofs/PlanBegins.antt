@@ -1,11 +1,11 @@
 -- How a plan begins.
-use Rattle.std.proofs.Common.{◌≡◌, Bool, true, false, List, [], ◌∷◌, ◌++◌, Option, refl, sym, ap, ap₂, ◌∙◌, subst}
-use Rattle.syn_grammar.specs.Tokens.{Stream, end}
+use Rattle.std.proofs.Common.{◌≡◌, Bool, true, false, Option, Some, None, refl, sym, ap, ◌∙◌, subst}
+use Rattle.syn_grammar.specs.Tokens.{Stream, Look, end, pick}
 use Rattle.syn_grammar.specs.Rules as rules
 use Rattle.syn_grammar.specs.Rules.{Rule}
-use Rattle.syn_grammar.specs.Grammar.{Node, Grammar}
-use Rattle.syn_grammar.specs.Table.{table}
-use Rattle.syn_grammar.specs.Take.{Out}
+use Rattle.syn_grammar.specs.Grammar.{Grammar, empty, rule, ◌&◌}
+use Rattle.syn_grammar.specs.Table.{table, at_item}
+use Rattle.syn_grammar.specs.Take.{Out, sees}
 use Rattle.syn_grammar.specs.Run.{parse_form, parse_rule}
 use Rattle.syn_grammar.specs.Plan.{Plan, run_plan}
 use Rattle.syn_grammar.specs.ItemPlan.{item_plan}
@@ -18,24 +18,21 @@ use Rattle.syn_grammar.proofs.MemberPlans.{trait_item_plan_is, impl_item_plan_is
 use Rattle.syn_grammar.proofs.StatementPlans.{crate_macro_plan_is}
 use Rattle.syn_grammar.proofs.SmallPlans.{derive_input_plan_is}
 use Rattle.syn_grammar.proofs.AlonePlans.{use_alone_is, type_alone_is, impl_alone_is}
-use Rattle.syn_recognize.specs.Forms.{grammar_of}
-use Rattle.syn_recognize.specs.Written.{Written, adds}
-use Rattle.syn_recognize.specs.Copies.{Copy, Reached, Refused, Stuck, Leads, copied, next, copy_form, capturing}
-use Rattle.syn_recognize.specs.Course.{Course}
-use Rattle.syn_recognize.specs.Courses.{Fair, after_form, copy_kept, copy_course, copy_way, copy_guess, course_of}
+use Rattle.syn_recognize.specs.PrintedRows.{way}
+use Rattle.syn_recognize.specs.Written.{Written, adds, blank, drops}
+use Rattle.syn_recognize.specs.Copies.{Copy, Reached, Refused, Stuck, copied, next, copy_form, capturing}
+use Rattle.syn_recognize.proofs.GuessedCourses.{Fair, Leads, after_form, copy_course, copy_kept}
+use Rattle.syn_recognize.specs.Course.{Course, reads, turns, followed, rest}
+use Rattle.syn_recognize.specs.Courses.{copy_aside, copy_dropped}
 use Rattle.syn_recognize.specs.Stages.{planned_course, planned_form}
-use Rattle.syn_recognize.specs.Steps.{todo, after}
-use Rattle.syn_recognize.specs.declared.guess.Guess.{Guess}
 use Rattle.syn_recognize.specs.declared.plan.Planned.{Planned}
 use Rattle.syn_recognize.specs.declared.plan.Planned.TheVariants as Planned-m
-use Rattle.syn_recognize.specs.declared.step.Step.{Step}
-use Rattle.syn_recognize.specs.declared.step.Step.TheVariants as Step-m
 use Rattle.syn_recognize.proofs.Writes.{adds_none}
 use Rattle.syn_recognize.proofs.Copied.{empty_is}
-use Rattle.syn_recognize.proofs.Todo.{push, leads_todo}
 use Rattle.syn_recognize.proofs.CourseProofs.{Goes, goes_written, goes_kept}
 use Rattle.syn_recognize.proofs.PlannedCourses.{item_goes, trait_item_goes, impl_item_goes, foreign_item_goes, derive_input_goes, crate_macro_goes, use_item_rest_goes, type_item_rest_goes, impl_definition_rest_goes}
-use Rattle.syn_recognize.proofs.StatementCourses.{table_is, statement_written, statement_kept, statements_written, statements_kept}
+use Rattle.syn_recognize.proofs.PlannedAside.{sure, coming, guesses, fits, course_is, dropped_is, dropped_known, leads_known}
+use Rattle.syn_recognize.proofs.StatementCourses.{item_course, table_is, statement_written, statement_kept, statements_written, statements_kept}
 
 -- nothing follows it
 nothing_after : (o : Copy) → next o (copy_form (after_form Planned-m.Item)) ≡ o
@@ -81,27 +78,73 @@ planned_kept Planned-m.ImplDefinitionRest w v ts = by_plan_kept rules.impl_defin
 planned_kept Planned-m.Statement w v ts = subst (Leads (copy_form (table rules.statement) w ts)) (sym (nothing_after (next (copy_kept (planned_course Planned-m.Statement) v ts) (capturing w ts)))) (statement_kept w ts v)
 planned_kept Planned-m.Statements w v ts = statements_kept w ts v
 
--- STEPS
+-- what is written aside from the beginning; how an impl's generics without parameters are printed is guessed where trees are written as
+-- they are printed
+module _ (A : Copy) (u : Written) (ts : Stream) (q : Grammar) where
+  from : (d : Course) → fits true d ≡ true → (i m : Stream) (v : Written) → ((l : Option Bool) → Fair u.printing l → Leads A (next (copy_course d l (adds u i) m) (copy_form q))) →
+      Leads A (next (next (copy_kept d v m) (capturing u ts)) (copy_form q)) → A ≡ next (copy_aside u ts d None (adds (blank u.printing) i) m) (copy_form q)
+  from d f i m v x y = go u.printing refl
+    where
+      go : (a : Bool) → u.printing ≡ a → A ≡ next (copy_aside u ts d None (adds (blank u.printing) i) m) (copy_form q)
+      go true e = course_is A u ts q d coming true (λ h. e) f i m v (λ l k. guessed l k) y
+        where
+          guessed : (l : Option Bool) → guesses coming l → Leads A (next (copy_course d l (adds u i) m) (copy_form q))
+          guessed None k = absurd k
+          guessed (Some z) k = x (Some z) (subst (λ c. Fair c (Some z)) (sym e) tt)
+      go false e = course_is A u ts q d sure true (λ h. e) f i m v (λ l k. guessed l k) y
+        where
+          guessed : (l : Option Bool) → guesses sure l → Leads A (next (copy_course d l (adds u i) m) (copy_form q))
+          guessed None k = x None (subst (λ c. Fair c None) (sym e) tt)
+          guessed (Some z) k = absurd k
 
-pub begins : (old new : List Step) (p : _) (k : Planned) (g : Guess) (w : Written) (ts : Stream) → new ≡ old ++ Step-m.Plan p g ∷ [] → course_of p.now ≡ planned_course k → g.kept ≡ false → Fair w.printing g.leads →
-    Leads (todo old (copy_form (planned_form k) w ts)) (todo new (Reached w ts))
-begins old new p k g w ts e c f fair =
-    subst (λ l. Leads (todo old (copy_form (planned_form k) w ts)) (todo l (Reached w ts))) (sym e)
-    (subst (Leads (todo old (copy_form (planned_form k) w ts))) (sym (push old (Step-m.Plan p g) (Reached w ts)))
-    (leads_todo old (copy_form (planned_form k) w ts) (copy_guess g (course_of p.now) w ts)
-    (subst (λ d. Leads (copy_form (planned_form k) w ts) (copy_guess g d w ts)) (sym c)
-    (subst (λ b. Leads (copy_form (planned_form k) w ts) (copy_way b (planned_course k) g.leads w ts)) (sym f) (planned_written k w ts g.leads fair)))))
+alone : (A : Copy) (u : Written) (ts : Stream) (d : Course) → fits true d ≡ true → ((l : Option Bool) → Fair u.printing l → Leads A (copy_course d l u ts)) →
+    ((v : Written) → Leads A (next (next (copy_kept d v ts) (capturing u ts)) (copy_form empty))) → A ≡ copy_aside u ts d None (blank u.printing) ts
+alone A u ts d f x y =
+    from A u ts empty d f end ts u (λ l k. subst (Leads A) (sym (nothing_after (copy_course d l (adds u end) ts))) (subst (λ w. Leads A (copy_course d l w ts)) (sym (adds_none u)) (x l k))) (y u)
+    ∙ nothing_after (copy_aside u ts d None (adds (blank u.printing) end) ts) ∙ ap (λ w. copy_aside u ts d None w ts) (adds_none (blank u.printing))
 
-pub begins_aside : (old new : List Step) (f b i p : _) (k : Planned) (g : Guess) (w v : Written) (ts : Stream) → new ≡ ((old ++ Step-m.Form f ∷ []) ++ Step-m.Capture b i ∷ []) ++ Step-m.Plan p g ∷ [] →
-    grammar_of f.now ≡ after_form k → b.value ≡ w → i ≡ ts → course_of p.now ≡ planned_course k → g.kept ≡ true → Leads (todo old (copy_form (planned_form k) w ts)) (todo new (Reached v ts))
-begins_aside old new f b i p k g w v ts e q r s c h =
-    subst (λ l. Leads (todo old (copy_form (planned_form k) w ts)) (todo l (Reached v ts))) (sym e)
-    (subst (Leads (todo old (copy_form (planned_form k) w ts)))
-    (sym (push ((old ++ Step-m.Form f ∷ []) ++ Step-m.Capture b i ∷ []) (Step-m.Plan p g) (Reached v ts) ∙ push (old ++ Step-m.Form f ∷ []) (Step-m.Capture b i) (copy_guess g (course_of p.now) v ts)
-    ∙ push old (Step-m.Form f) (next (copy_guess g (course_of p.now) v ts) (capturing b.value i))))
-    (leads_todo old (copy_form (planned_form k) w ts) (next (next (copy_guess g (course_of p.now) v ts) (capturing b.value i)) (copy_form (grammar_of f.now)))
-    (subst (λ d. Leads (copy_form (planned_form k) w ts) (next (next (copy_guess g d v ts) (capturing b.value i)) (copy_form (grammar_of f.now)))) (sym c)
-    (subst (λ a. Leads (copy_form (planned_form k) w ts) (next (next (copy_way a (planned_course k) g.leads v ts) (capturing b.value i)) (copy_form (grammar_of f.now)))) (sym h)
-    (subst (λ u. Leads (copy_form (planned_form k) w ts) (next (next (copy_kept (planned_course k) v ts) (capturing u i)) (copy_form (grammar_of f.now)))) (sym r)
-    (subst (λ z. Leads (copy_form (planned_form k) w ts) (next (next (copy_kept (planned_course k) v ts) (capturing w z)) (copy_form (grammar_of f.now)))) (sym s)
-    (subst (λ x. Leads (copy_form (planned_form k) w ts) (next (next (copy_kept (planned_course k) v ts) (capturing w ts)) (copy_form x))) (sym q) (planned_kept k w v ts))))))))
+-- the statements of a block: an item, which a form follows, or the rest
+module _ (a r h : Grammar) (c : Look) (d : Course) (f : fits true d ≡ true) (A : Copy) (u : Written) (ts : Stream) where
+  abbrev one_followed : Course
+  one_followed = turns c (followed d h) (rest r)
+
+  statements_aside : ((l : Option Bool) → Fair u.printing l → Leads A (copy_course (reads a one_followed) l u ts)) → Leads A (next (next (copy_kept (reads a one_followed) u ts) (capturing u ts)) (copy_form h)) →
+      A ≡ copy_aside u ts (reads a one_followed) None (blank u.printing) ts
+  unfolding copy_form
+  statements_aside x y = go (parse_form a ts) x y
+    where
+      go : (o : Out) → ((l : Option Bool) → Fair u.printing l → Leads A (next (copied u o) (copy_course one_followed l))) → Leads A (next (next (next (copied u o) (copy_kept one_followed)) (capturing u ts)) (copy_form h)) →
+          A ≡ next (copied (blank u.printing) o) (copy_aside u ts one_followed None)
+      go None x y = y
+      go (Some p) x y = turn (sees c p.1) x y
+        where
+          i : Stream
+          i = way u.printing p.0
+
+          turn : (z : Bool) → ((l : Option Bool) → Fair u.printing l → Leads A (pick z (next (copy_course d l (adds u i) p.1) (copy_form h)) (copy_course (rest r) l (adds u i) p.1))) →
+              Leads A (next (next (pick z (copy_kept d (adds u i) p.1) Stuck) (capturing u ts)) (copy_form h)) →
+              A ≡ pick z (next (copy_aside u ts d None (adds (blank u.printing) i) p.1) (copy_form h)) (copy_aside u ts (rest r) None (adds (blank u.printing) i) p.1)
+          turn true x y = from A u ts h d f i p.1 (adds u i) x y
+          turn false x y =
+              from A u ts empty (rest r) refl i p.1 u (λ l k. subst (Leads A) (sym (nothing_after (copy_course (rest r) l (adds u i) p.1))) (x l k)) tt
+              ∙ nothing_after (copy_aside u ts (rest r) None (adds (blank u.printing) i) p.1)
+
+pub planned_aside : (k : Planned) (u : Written) (ts : Stream) → copy_form (planned_form k) u ts ≡ copy_aside u ts (planned_course k) None (blank u.printing) ts
+planned_aside Planned-m.Item u ts = alone _ u ts (planned_course Planned-m.Item) refl (planned_written Planned-m.Item u ts) (λ v. planned_kept Planned-m.Item u v ts)
+planned_aside Planned-m.TraitItem u ts = alone _ u ts (planned_course Planned-m.TraitItem) refl (planned_written Planned-m.TraitItem u ts) (λ v. planned_kept Planned-m.TraitItem u v ts)
+planned_aside Planned-m.ImplItem u ts = alone _ u ts (planned_course Planned-m.ImplItem) refl (planned_written Planned-m.ImplItem u ts) (λ v. planned_kept Planned-m.ImplItem u v ts)
+planned_aside Planned-m.ForeignItem u ts = alone _ u ts (planned_course Planned-m.ForeignItem) refl (planned_written Planned-m.ForeignItem u ts) (λ v. planned_kept Planned-m.ForeignItem u v ts)
+planned_aside Planned-m.CrateMacro u ts = alone _ u ts (planned_course Planned-m.CrateMacro) refl (planned_written Planned-m.CrateMacro u ts) (λ v. planned_kept Planned-m.CrateMacro u v ts)
+planned_aside Planned-m.DeriveInput u ts = alone _ u ts (planned_course Planned-m.DeriveInput) refl (planned_written Planned-m.DeriveInput u ts) (λ v. planned_kept Planned-m.DeriveInput u v ts)
+planned_aside Planned-m.Statement u ts = alone _ u ts (planned_course Planned-m.Statement) refl (planned_written Planned-m.Statement u ts) (λ v. planned_kept Planned-m.Statement u v ts)
+planned_aside Planned-m.UseItemRest u ts = alone _ u ts (planned_course Planned-m.UseItemRest) refl (planned_written Planned-m.UseItemRest u ts) (λ v. planned_kept Planned-m.UseItemRest u v ts)
+planned_aside Planned-m.TypeItemRest u ts = alone _ u ts (planned_course Planned-m.TypeItemRest) refl (planned_written Planned-m.TypeItemRest u ts) (λ v. planned_kept Planned-m.TypeItemRest u v ts)
+planned_aside Planned-m.ImplDefinitionRest u ts = alone _ u ts (planned_course Planned-m.ImplDefinitionRest) refl (planned_written Planned-m.ImplDefinitionRest u ts) (λ v. planned_kept Planned-m.ImplDefinitionRest u v ts)
+planned_aside Planned-m.Statements u ts =
+    statements_aside (rule rules.attributes) (rule rules.statement_rest & empty) (rule rules.statements) at_item item_course refl _ u ts (planned_written Planned-m.Statements u ts) (planned_kept Planned-m.Statements u u ts)
+
+-- where what is written is dropped
+pub planned_dropped : (k : Planned) (u : Written) (ts : Stream) → drops u ≡ true → u.printing ≡ false → copy_form (planned_form k) u ts ≡ copy_dropped (planned_course k) u ts
+planned_dropped k u ts e f =
+    leads_known (copy_form (planned_form k) u ts) (copy_dropped (planned_course k) u ts)
+    (subst (Leads (copy_form (planned_form k) u ts)) (sym (dropped_is (planned_course k) u ts e)) (planned_written k u ts None (subst (λ a. Fair a None) (sym f) tt))) (dropped_known (planned_course k) u ts)

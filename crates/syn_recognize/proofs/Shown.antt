@@ -1,5 +1,5 @@
 -- What was written of a whole rule.
-use Rattle.std.proofs.Common.{◌≡◌, Some, None, refl, sym, ap, ◌∙◌, ◌≤◌, Bool, true, false, ◌+◌, arith, true≢false}
+use Rattle.std.proofs.Common.{◌≡◌, Result, Ok, Err, IfOk, OnErr, Some, None, refl, sym, ap, ◌∙◌, ◌≤◌, Bool, true, false, ◌+◌, arith, true≢false}
 use Rattle.syn_grammar.specs.Tokens.{Stream}
 use Rattle.syn_grammar.specs.Rules.{Rule}
 use Rattle.syn_grammar.specs.Grammar.{Syntax, show, print}
@@ -8,8 +8,9 @@ use Rattle.syn_grammar.specs.Run.{parse_rule}
 use Rattle.syn_grammar.proofs.Run.{Less, parse_rule_less}
 use Rattle.syn_grammar.proofs.Said.{start_of}
 use Rattle.syn_tokens.specs.Building.{added}
+use Rattle.syn_recognize.specs.Printed.{Shows}
 use Rattle.syn_recognize.specs.PrintedRows.{way}
-use Rattle.syn_recognize.specs.Written.{Written, adds, blank, stream_of}
+use Rattle.syn_recognize.specs.Written.{Written, adds, blank, closed, stream_of}
 use Rattle.syn_recognize.specs.Copies.{Copy, Reached, Refused, copied, least, least_of}
 
 -- what is left
@@ -62,13 +63,29 @@ moved u k w ts r e = let (s, q) = read u k w ts r e in go (start_of k).nullable 
 pub kept : (u : Written) (k : Rule) (w : Written) (ts r : Stream) → copied u (parse_rule k ts) ≡ Reached w r → left r ≤ left ts
 kept u k w ts r e = let m = moved u k w ts r e in omega (arith, m)
 
+-- no group is left open
+pub left_open : (a : Bool) (k : Rule) (w : Written) (ts r : Stream) → copied (blank a) (parse_rule k ts) ≡ Reached w r → closed w ≡ false → ⊥
+unfolding adds added
+left_open a k w ts r e f = let (s, q, v) = tree_of (blank a) k w ts r e in true≢false (sym (ap closed v) ∙ f)
+
 -- in both ways it's one tree
-pub both_written : (k : Rule) (w v : Written) (ts r q i j : Stream) → copied (blank false) (parse_rule k ts) ≡ Reached w q → i ≡ stream_of w → copied (blank true) (parse_rule k ts) ≡ Reached v r → j ≡ stream_of v →
-    (s : Syntax) × (parse_rule k ts ≡ Some (s, r)) × (i ≡ show s) × (j ≡ print s)
-both_written k w v ts r q i j e f g h =
-    let (s, d, x) = shown false k w ts q i e f in
-    let (t, c, y) = shown true k v ts r j g h in
-    (t, c, x ∙ ap show (tree_is (sym d ∙ c)), y)
+abbrev pub In : (Syntax → Stream) → Rule → Stream → Stream → Stream → Type 0
+In f k ts r i = (s : Syntax) × (parse_rule k ts ≡ Some (s, r)) × (i ≡ f s)
+
+-- the tokens as they are shown, and as they are printed
+pub shown_alone : (k : Rule) (w : Written) (ts r i : Stream) → copied (blank false) (parse_rule k ts) ≡ Reached w r → i ≡ stream_of w → In show k ts r i
+shown_alone = shown false
+
+pub printed_alone : (k : Rule) (w : Written) (ts r i : Stream) → copied (blank true) (parse_rule k ts) ≡ Reached w r → i ≡ stream_of w → In print k ts r i
+printed_alone = shown true
+
+pub shows : {E : Type 0} (refusal : E → Type 0) (k : Rule) (w : Written) (ts r : Stream) (x : Result Stream E) → copied (blank false) (parse_rule k ts) ≡ Reached w r →
+    IfOk x (λ i. i ≡ stream_of w) → OnErr x (closed w ≡ false) → Shows refusal k ts x r
+shows refusal k w ts r (Ok i) e f g = shown_alone k w ts r i e f
+shows refusal k w ts r (Err x) e f g = λ s. absurd (left_open false k w ts r e g)
+
+pub both : (k : Rule) (ts q r i j : Stream) → In show k ts q i → In print k ts r j → (s : Syntax) × (parse_rule k ts ≡ Some (s, r)) × (i ≡ show s) × (j ≡ print s)
+both k ts q r i j (s, d, x) (t, c, y) = (t, c, x ∙ ap show (tree_is (sym d ∙ c)), y)
   where
     tree_from : Syntax → Out → Syntax
     tree_from s (Some p) = p.0

@@ -6,24 +6,22 @@ use Rattle.syn_grammar.specs.Rules.{Rule, type, where_clause, root_mark}
 use Rattle.syn_grammar.specs.Grammar.{has, one_where, holds, Syntax, Nothing, Right, Node, Vanishing, Grammar, empty, mark, ◌&◌, vanishing, one_of, rule}
 use Rattle.syn_grammar.specs.Forms.{punctuation}
 use Rattle.syn_grammar.specs.Table.{table, at_equals}
-use Rattle.syn_grammar.specs.Take.{Out, sees, before}
+use Rattle.syn_grammar.specs.Take.{Out, sees}
 use Rattle.syn_grammar.specs.Run.{branch, parse_form, vanish, wrap}
-use Rattle.syn_grammar.specs.DecidedByTokens.{roots}
 use Rattle.syn_grammar.specs.Plan as plan
 use Rattle.syn_grammar.specs.Plan.{Plan, follow, by_test, run_plan}
 use Rattle.syn_grammar.specs.ItemPlan.{parts}
 use Rattle.syn_grammar.proofs.Run.{parse_rule_is}
 use Rattle.syn_grammar.proofs.Streams.{append_end}
 use Rattle.syn_grammar.proofs.DecidedByTokens.{one_where_seen, trees_known}
-use Rattle.syn_recognize.specs.Within.{first}
 use Rattle.syn_recognize.specs.PrintedRows.{way}
 use Rattle.syn_recognize.specs.Written.{Written, adds}
-use Rattle.syn_recognize.specs.Copies.{Reached, Refused, Stuck, Leads, copied, next, copy_form, capturing}
+use Rattle.syn_recognize.specs.Copies.{copied, next, copy_form, capturing}
+use Rattle.syn_recognize.proofs.GuessedCourses.{Fair, Leads, copy_course, copy_kept, leads_same}
 use Rattle.syn_recognize.specs.Course.{Course, reads, turns, rooted, rest, kept}
-use Rattle.syn_recognize.specs.Courses.{Fair, by_roots, copy_kept, copy_course, trees_in_braces}
-use Rattle.syn_recognize.proofs.Todo.{leads_same}
+use Rattle.syn_recognize.specs.Courses.{by_roots, trees_in_braces}
 use Rattle.syn_recognize.proofs.Writes.{adds_more}
-use Rattle.syn_recognize.proofs.CourseProofs.{Goes, Kept, Meets, Written-as, Kept-as, reads_written, turns_written, rest_written, kept_written, reads_kept, turns_kept, kept_is, goes_written, goes_kept}
+use Rattle.syn_recognize.proofs.CourseProofs.{Goes, Meets, Written-as, Kept-as, reads_written, turns_written, rest_written, kept_written, reads_kept, turns_kept, kept_is, goes_written, goes_kept}
 
 -- A USE with trees in braces
 pub rooted_meets : (a : Bool) (d e : Course) (P Q : Syntax → Plan) (i m : Stream) → ((t : Syntax) (r : Stream) → parse_form trees_in_braces m ≡ Some (t, r) → Goes a d (P t) (i ⧺ way a t) r) →

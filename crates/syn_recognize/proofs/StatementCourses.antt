@@ -1,14 +1,14 @@
 -- The courses of statements write what statements write.
-use Rattle.std.proofs.Common.{◌≡◌, Bool, true, false, Option, [], ◌∷◌, Some, None, refl, sym, ap, ap₂, ◌∙◌, subst, true≢false, ◌⊎◌, inl, inr}
+use Rattle.std.proofs.Common.{◌≡◌, Bool, true, false, Option, Some, None, refl, sym, ap, ap₂, ◌∙◌, subst, true≢false, ◌⊎◌, inl, inr}
 use Rattle.syn_grammar.specs.Tokens.{Stream, end, ◌⧺◌, pick, or, and, Look, Lookahead, lookahead, answers, ended, at_name, at_word, at_mark, at_literal, at_group, at_empty_group, ahead, ◌or_else◌, ◌and_also◌, ◌but_not◌}
 use Rattle.syn_grammar.specs.Rules.{Rule, attributes, statement, statements, statement_rest, kept_in_block, kept_item, kept_item_rest, item_rest, item}
 use Rattle.syn_grammar.specs.Shape.{an_item, attributed, choice, listed, single}
 use Rattle.syn_grammar.specs.Values.{shape, core, stated, in_list}
-use Rattle.syn_grammar.specs.Grammar.{Syntax, Nothing, Unshown, Both, Left, Right, Node, Shaped, Grammar, empty, ◌&◌, when◌then◌else◌, rule}
+use Rattle.syn_grammar.specs.Grammar.{Syntax, Nothing, Unshown, Both, Right, Node, Shaped, Grammar, empty, ◌&◌, rule}
 use Rattle.syn_grammar.specs.Table.{table, at_item, at_pound, at_semicolon}
-use Rattle.syn_grammar.specs.Take.{Out, Parser, sees, before}
+use Rattle.syn_grammar.specs.Take.{Out, Parser, sees}
 use Rattle.syn_grammar.specs.Run.{and_then, branch, caught, first_of, parse_form, parse_rule, wrap}
-use Rattle.syn_grammar.specs.Plan.{Plan, follow, by_test, run_plan}
+use Rattle.syn_grammar.specs.Plan.{follow, by_test, run_plan}
 use Rattle.syn_grammar.specs.ItemPlan.{item_after, item_plan}
 use Rattle.syn_grammar.specs.ItemStatements.{item_statement, item_listed}
 use Rattle.syn_grammar.specs.StatementPlans.{other_statement, of_other}
@@ -24,16 +24,14 @@ use Rattle.syn_grammar.proofs.StatementPlans.{statement_plan_is}
 use Rattle.syn_recognize.specs.Within.{first, second}
 use Rattle.syn_recognize.specs.PrintedRows.{way}
 use Rattle.syn_recognize.specs.Written.{Written, adds}
-use Rattle.syn_recognize.specs.Copies.{Copy, Reached, Refused, Stuck, Leads, copied, next, copy_form, capturing}
+use Rattle.syn_recognize.specs.Copies.{Copy, Reached, Refused, Stuck, copied, next, copy_form, capturing}
+use Rattle.syn_recognize.proofs.GuessedCourses.{Fair, Leads, copy_course, copy_kept, leads_same}
 use Rattle.syn_recognize.specs.Course.{Course, reads, turns, followed, rest}
-use Rattle.syn_recognize.specs.Courses.{Fair, copy_kept, copy_course, settled}
 use Rattle.syn_recognize.specs.Stages.{planned_course}
 use Rattle.syn_recognize.specs.declared.plan.Planned.TheVariants as Planned-m
-use Rattle.syn_recognize.proofs.Todo.{leads_same}
-use Rattle.syn_recognize.proofs.Ways.{way_both, way_left, way_node, way_right, way_shape}
-use Rattle.syn_recognize.proofs.Writes.{adds_more}
+use Rattle.syn_recognize.proofs.Ways.{way_both, way_node, way_right, way_shape}
 use Rattle.syn_recognize.proofs.Copied.{following, empty_is, then_is, wrapped}
-use Rattle.syn_recognize.proofs.CourseProofs.{Goes, Written-as, Kept-as, goes_written, goes_kept}
+use Rattle.syn_recognize.proofs.CourseProofs.{Goes, goes_written, goes_kept}
 use Rattle.syn_recognize.proofs.PlannedCourses.{item_goes}
 
 abbrev inner : Course → Course
@@ -41,7 +39,7 @@ inner (reads g d) = d
 inner d = d
 
 -- an item after its attributes
-abbrev item_course : Course
+abbrev pub item_course : Course
 item_course = inner (planned_course Planned-m.Item)
 
 item_after_goes : (a : Bool) (ts m : Stream) (x : Syntax) → parse_rule attributes ts ≡ Some (x, m) → Goes a item_course (item_after x) (end ⧺ way a x) m

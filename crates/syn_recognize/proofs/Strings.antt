@@ -1,7 +1,7 @@
 -- Where a string is next.
-use Rattle.std.proofs.Common.{◌≡◌, Bool, true, false, [], ◌∷◌, Some, None, refl, sym, ap, ◌∙◌}
+use Rattle.std.proofs.Common.{◌≡◌, ℕ, Bool, true, false, [], ◌∷◌, Some, None, refl, sym, ap, ◌∙◌}
 use Rattle.syn_grammar.specs.Words.{Text}
-use Rattle.syn_grammar.specs.Tokens.{Span, LitKind, Str, ByteStr, CStr, Byte, Char, Int, Float, ident, literal, Stream, end, leaf, punct, group, at_literal}
+use Rattle.syn_grammar.specs.Tokens.{Span, Delimiter, LitKind, Str, ByteStr, CStr, Byte, Char, Int, Float, ident, literal, Stream, end, leaf, punct, group, at_literal}
 use Rattle.syn_grammar.specs.Grammar.{Syntax, any_literal, literal_of, Token}
 use Rattle.syn_grammar.specs.Take.{Out, sees, take_token, taken, only}
 use Rattle.syn_grammar.proofs.Looks.{sees_literal}
@@ -67,12 +67,40 @@ no_literal_taken (punct c j sq m) e = refl
 no_literal_taken (group d o c i m) e = refl
 
 -- WHETHER ONE IS NEXT
-pub string_seen : (ts : Stream) (k : LiteralKind) (x : Text) (sp : Span) (r : Stream) → take_token any_literal ts ≡ Some (Token (literal (kind_of k) x) sp, r) → sees (at_literal Str) ts ≡ is_string k
+string_seen : (ts : Stream) (k : LiteralKind) (x : Text) (sp : Span) (r : Stream) → take_token any_literal ts ≡ Some (Token (literal (kind_of k) x) sp, r) → sees (at_literal Str) ts ≡ is_string k
 string_seen ts k x sp r e = sees_literal Str ts ∙ ap taken (literal_taken ts (kind_of k) x sp r e) ∙ of_only (is_str (kind_of k)) ∙ is_so k
   where
     of_only : (b : Bool) → taken {A = Syntax × Stream} (only b (Some (Token (literal (kind_of k) x) sp, r))) ≡ b
     of_only true = refl
     of_only false = refl
 
-pub no_string_seen : (ts : Stream) → take_token any_literal ts ≡ None → sees (at_literal Str) ts ≡ false
+no_string_seen : (ts : Stream) → take_token any_literal ts ≡ None → sees (at_literal Str) ts ≡ false
 no_string_seen ts e = sees_literal Str ts ∙ ap taken (no_literal_taken ts e)
+
+-- by the first token tree
+pub string_next : (k : LiteralKind) (x : Text) (sp : Span) (r : Stream) → sees (at_literal Str) (leaf (literal (kind_of k) x) sp r) ≡ is_string k
+string_next k x sp r = string_seen (leaf (literal (kind_of k) x) sp r) k x sp r (take_literal (kind_of k) x sp r)
+
+no_literal_at_end : take_token any_literal end ≡ None
+unfolding take_token
+no_literal_at_end = refl
+
+pub string_not_at_end : sees (at_literal Str) end ≡ false
+string_not_at_end = no_string_seen end no_literal_at_end
+
+pub string_not_at_ident : (x : Text) (sp : Span) (r : Stream) → sees (at_literal Str) (leaf (ident x) sp r) ≡ false
+string_not_at_ident x sp r = no_string_seen (leaf (ident x) sp r) (no_literal_at_ident x sp r any_literal refl)
+
+no_literal_at_punct : (c : ℕ) (j : Bool) (sp : Span) (r : Stream) → take_token any_literal (punct c j sp r) ≡ None
+unfolding take_token
+no_literal_at_punct c j sp r = refl
+
+pub string_not_at_punct : (c : ℕ) (j : Bool) (sp : Span) (r : Stream) → sees (at_literal Str) (punct c j sp r) ≡ false
+string_not_at_punct c j sp r = no_string_seen (punct c j sp r) (no_literal_at_punct c j sp r)
+
+no_literal_at_group : (d : Delimiter) (o c : Span) (i r : Stream) → take_token any_literal (group d o c i r) ≡ None
+unfolding take_token
+no_literal_at_group d o c i r = refl
+
+pub string_not_at_group : (d : Delimiter) (o c : Span) (i r : Stream) → sees (at_literal Str) (group d o c i r) ≡ false
+string_not_at_group d o c i r = no_string_seen (group d o c i r) (no_literal_at_group d o c i r)

@@ -1,22 +1,25 @@
 -- Deferred steps.
-use Rattle.std.proofs.Common.{◌≡◌, Bool, true, false, List, [], ◌∷◌, ◌++◌, Some, None, Result, Ok, Err, refl, sym, ap, ◌∙◌, subst}
+use Rattle.std.proofs.Common.{◌≡◌, Bool, true, false, List, [], ◌∷◌, ◌++◌, Some, None, Result, Ok, Err, refl, sym, ap, ◌∙◌}
+use Rattle.std.specs.Borrow.{Bor}
 use Rattle.syn_grammar.specs.Promises.{OrMemory}
 use Rattle.syn_grammar.specs.Tokens.{Stream, pick}
 use Rattle.syn_grammar.specs.Rules.{Rule, whole_expression}
-use Rattle.syn_grammar.specs.Grammar.{Syntax, Such, Node, Left, Right, Both, ends_brace, trailing_brace, no_trailing_brace, Grammar, ◌&◌, either, rule, such}
+use Rattle.syn_grammar.specs.Grammar.{Syntax, Such, Node, Left, Right, Both, ends_brace, trailing_brace, no_trailing_brace, Grammar, empty, ◌&◌, either, rule, such}
 use Rattle.syn_grammar.specs.Table.{table}
 use Rattle.syn_grammar.specs.Take.{Out, Parser, before}
 use Rattle.syn_grammar.specs.Run.{and_then, such_as, first_of, wrap, parse_form, parse_rule}
 use Rattle.syn_grammar.proofs.Run.{parse_rule_is}
 use Rattle.syn_recognize.specs.PrintedRows.{way}
 use Rattle.syn_recognize.specs.Written.{Written, adds}
+use Rattle.syn_recognize.specs.Forms.{grammar_of}
 use Rattle.syn_recognize.specs.Trailing.{ends_by}
-use Rattle.syn_recognize.specs.Copies.{Copy, Reached, Refused, Stuck, Leads, copied, next, copy_form, by_braces}
-use Rattle.syn_recognize.specs.Steps.{after, todo, Steps, Guessing, Leading, Proceeds}
+use Rattle.syn_recognize.specs.Copies.{Copy, Reached, Refused, copied, next, copy_form, by_braces}
+use Rattle.syn_recognize.specs.Steps.{after, todo, Steps, Leading, Proceeds}
+use Rattle.syn_recognize.specs.declared.form.Form.{Form}
 use Rattle.syn_recognize.specs.declared.step.Step.{Step}
 use Rattle.syn_recognize.specs.declared.step.Step.TheVariants as Step-m
 use Rattle.syn_recognize.proofs.Ways.{way_such, way_left, way_right, way_node}
-use Rattle.syn_recognize.proofs.Copied.{wrapped, following, rule_is}
+use Rattle.syn_recognize.proofs.Copied.{wrapped, following, empty_is, rule_is}
 use Rattle.syn_recognize.proofs.Trailing.{trailing_brace_read}
 
 -- the step on top is done first
@@ -29,16 +32,15 @@ pub all_done : (o : Copy) → todo [] o ≡ o
 unfolding todo
 all_done o = refl
 
--- a step does nothing after a failure or a wrong guess
+-- a step does nothing after a failure
 nowhere : (s : Step) → after s Refused ≡ Refused
 nowhere (Step-m.Form f) = refl
-nowhere (Step-m.Close d c rest) = refl
-nowhere (Step-m.Row k n) = refl
-nowhere (Step-m.RowRest k n) = refl
-nowhere (Step-m.Others k l) = refl
-nowhere (Step-m.OthersRest k l) = refl
-nowhere (Step-m.Note b ts n) = refl
-nowhere (Step-m.Skip k b l) = refl
+nowhere (Step-m.Close c rest) = refl
+nowhere (Step-m.Row k) = refl
+nowhere (Step-m.RowRest k) = refl
+nowhere (Step-m.Others k b) = refl
+nowhere (Step-m.OthersRest k b) = refl
+nowhere (Step-m.LateRest k b) = refl
 nowhere (Step-m.Forget b) = refl
 nowhere (Step-m.Capture b ts) = refl
 nowhere (Step-m.Plan p g) = refl
@@ -46,52 +48,10 @@ nowhere (Step-m.Rooted p q g b) = refl
 nowhere (Step-m.ByBraces f g ts) = refl
 nowhere (Step-m.Levels a b) = refl
 
-stuck : (s : Step) → after s Stuck ≡ Stuck
-stuck (Step-m.Form f) = refl
-stuck (Step-m.Close d c rest) = refl
-stuck (Step-m.Row k n) = refl
-stuck (Step-m.RowRest k n) = refl
-stuck (Step-m.Others k l) = refl
-stuck (Step-m.OthersRest k l) = refl
-stuck (Step-m.Note b ts n) = refl
-stuck (Step-m.Skip k b l) = refl
-stuck (Step-m.Forget b) = refl
-stuck (Step-m.Capture b ts) = refl
-stuck (Step-m.Plan p g) = refl
-stuck (Step-m.Rooted p q g b) = refl
-stuck (Step-m.ByBraces f g ts) = refl
-stuck (Step-m.Levels a b) = refl
-
 pub refused : (l : List Step) (o : Copy) → o ≡ Refused → todo l o ≡ Refused
 unfolding todo
 refused [] o e = e
 refused (s ∷ l) o e = ap (after s) (refused l o e) ∙ nowhere s
-
--- GUESSES
-
-pub leads_same : (a b : Copy) → a ≡ b → Leads a b
-leads_same a (Reached w ts) e = e
-leads_same a Refused e = e
-leads_same a Stuck e = tt
-
-pub leads_on : (a b c : Copy) → Leads a b → Leads b c → Leads a c
-leads_on a b (Reached w ts) h e = subst (Leads a) e h
-leads_on a b Refused h e = subst (Leads a) e h
-leads_on a b Stuck h e = tt
-
-leads_step : (s : Step) (a b : Copy) → Leads a b → Leads (after s a) (after s b)
-leads_step s a (Reached w ts) h = leads_same (after s a) (after s (Reached w ts)) (ap (after s) h)
-leads_step s a Refused h = leads_same (after s a) (after s Refused) (ap (after s) h)
-leads_step s a Stuck h = subst (Leads (after s a)) (sym (stuck s)) tt
-
-pub leads_todo : (l : List Step) (a b : Copy) → Leads a b → Leads (todo l a) (todo l b)
-unfolding todo
-leads_todo [] a b h = h
-leads_todo (s ∷ l) a b h = leads_step s (todo l a) (todo l b) (leads_todo l a b h)
-
-pub guessing : {E : Type 0} (refusal : E → Type 0) (old : List Step) (out : Copy) (r : Result (Unit {0}) E) (new : List Step) (w : Written) (ts : Stream) → Steps refusal old out r new w ts → Guessing refusal old out r new w ts
-guessing refusal old out (Ok x) new w ts h = leads_same (todo old out) (todo new (Reached w ts)) h
-guessing refusal old out (Err e) new w ts h = h
 
 -- a step leaves no step to do, unless it was refused for memory
 pub done_unless : {E : Type 0} (refusal : E → Type 0) (r : Result (Unit {0}) E) (l : List Step) (o : Copy) (w : Written) (ts : Stream) (A B : Type 0) → OrMemory refusal r (λ x. A) → OrMemory refusal r (λ x. B) → (A → B → o ≡ Reached w ts) →
@@ -138,14 +98,18 @@ rule_left k g w ts e = ap (copied w) (parse_rule_is k ts) ∙ wrapped Node way_n
 
 -- SEVERAL STEPS
 
-pub guessing_leads : {E : Type 0} (refusal : E → Type 0) (old : List Step) (out : Copy) (r : Result (Unit {0}) E) (new : List Step) (w : Written) (ts : Stream) → Guessing refusal old out r new w ts → Leading refusal old out r new w ts
-guessing_leads refusal old out (Ok x) new w ts h = h
-guessing_leads refusal old out (Err e) new w ts h = λ s. refused old out (h s)
+pub steps_lead : {E : Type 0} (refusal : E → Type 0) (old : List Step) (out : Copy) (r : Result (Unit {0}) E) (new : List Step) (w : Written) (ts : Stream) → Steps refusal old out r new w ts → Leading refusal old out r new w ts
+steps_lead refusal old out (Ok x) new w ts h = h
+steps_lead refusal old out (Err e) new w ts h = λ s. refused old out (h s)
 
 -- GOING DOWN A FORM
 
 pub goes_here : (l : List Step) (o : Copy) (g : Grammar) (w : Written) (ts : Stream) → o ≡ copy_form g w ts → Proceeds l o l g w ts
 goes_here l o g w ts e = record { same = ap (todo l) e }
+
+-- the form itself is deferred
+pub goes_later : (l : List Step) (f : Bor Form) (o : Copy) (w : Written) (ts : Stream) → o ≡ copy_form (grammar_of f.now) w ts → Proceeds l o (l ++ Step-m.Form f ∷ []) empty w ts
+goes_later l f o w ts e = record { same = ap (todo l) e ∙ sym (push l (Step-m.Form f) (copy_form empty w ts) ∙ ap (λ c. todo l (next c (copy_form (grammar_of f.now)))) (empty_is w ts)) }
 
 -- what follows the form is deferred
 pub goes_first : (l : List Step) (s : Step) (o : Copy) (g : Grammar) (w : Written) (ts : Stream) → o ≡ after s (copy_form g w ts) → Proceeds l o (l ++ s ∷ []) g w ts
@@ -159,5 +123,5 @@ pub goes_back : (l : List Step) (s : Step) (o : Copy) (g : Grammar) (w : Written
 goes_back l s o g w ts e = record { same = push l s o ∙ ap (todo l) e }
 
 pub goes_read : {E : Type 0} (refusal : E → Type 0) (l m n : List Step) (o : Copy) (g : Grammar) (w v : Written) (ts r : Stream) (x : Result (Unit {0}) E) → Proceeds l o m g w ts → Leading refusal m (copy_form g w ts) x n v r → Leading refusal l o x n v r
-goes_read refusal l m n o g w v ts r (Ok x) a h = subst (λ c. Leads c (todo n (Reached v r))) (sym a.same) h
+goes_read refusal l m n o g w v ts r (Ok x) a h = a.same ∙ h
 goes_read refusal l m n o g w v ts r (Err e) a h = λ s. a.same ∙ h s

@@ -1,9 +1,9 @@
 -- What writes that follow each other leave.
-use Rattle.std.proofs.Common.{◌≡◌, ℕ, Bool, true, false, Option, Some, None, [], ◌∷◌, refl, sym, ap, ◌∙◌, true≢false}
+use Rattle.std.proofs.Common.{◌≡◌, ℕ, Bool, true, false, Option, Some, None, List, [], ◌∷◌, refl, sym, ap, ◌∙◌, true≢false}
 use Rattle.syn_grammar.specs.Words.{Text}
 use Rattle.syn_grammar.specs.Tokens.{Span, Delimiter, Stream, end, ident, leaf, punct, group, ◌⧺◌}
 use Rattle.syn_grammar.specs.Grammar.{Syntax, Mark, print}
-use Rattle.syn_tokens.specs.Building.{Building, Closes, added, closed_in, into_group, out_of_group}
+use Rattle.syn_tokens.specs.Building.{Building, Closes, OpenGroup, added, closed_in, into_group, is_open, is_open_in, out_of_group}
 use Rattle.syn_tokens.specs.Delimiters.{delimiter_of}
 use Rattle.syn_tokens.specs.Leaves.{syntax_of_word}
 use Rattle.syn_tokens.specs.Spans.{at}
@@ -13,7 +13,7 @@ use Rattle.syn_tokens.proofs.Builders.{closed_last}
 use Rattle.syn_tokens.proofs.Prints.{added_more, added_none, added_group}
 use Rattle.syn_recognize.specs.Trailing.{IsLeaf}
 use Rattle.syn_recognize.specs.PrintedRows.{way}
-use Rattle.syn_recognize.specs.Written.{Written, adds, changed, drops_in, enters, leaves}
+use Rattle.syn_recognize.specs.Written.{Written, adds, changed, closed, closed_in as closed_out, drops_in, enters, leaves, none_open}
 use Rattle.syn_recognize.proofs.Ways.{way_leaf}
 
 abbrev into : Bool → Option Building → Written
@@ -107,3 +107,26 @@ three_are w c d e s t u = ap (λ z. adds z (punct e false (at u) end)) (adds_mor
     go : (a : Bool) → punct c true (at s) (punct d true (at t) (punct e false (at u) end)) ≡ way a (Mark ((c, at s) ∷ (d, at t) ∷ (e, at u) ∷ []))
     go true = refl
     go false = refl
+
+-- no group is open: nothing ends
+pub none_left : (c : Span) (b : Building) → is_open b ≡ false → out_of_group c b ≡ b
+unfolding out_of_group is_open
+none_left c b e = of b.open_groups refl e
+  where
+    of : (gs : List OpenGroup) → b.open_groups ≡ gs → is_open_in gs ≡ false → closed_in b.before b.open_groups c b.stream ≡ b
+    of [] q e = ap (λ gs. closed_in b.before gs c b.stream) q ∙ sym (ap (λ gs. record b { open_groups = gs }) q)
+    of (g ∷ gs) q e = absurd (true≢false e)
+
+-- no group is open
+pub none_is_open : (gs : List OpenGroup) → none_open gs ≡ true → gs ≡ []
+none_is_open [] e = refl
+none_is_open (g ∷ gs) e = absurd (true≢false (sym e))
+
+-- a group is open after what was written is added as before
+pub closed_still : (w : Written) (i : Stream) → closed (adds w i) ≡ closed w
+unfolding adds added
+closed_still w i = go w.out
+  where
+    go : (o : Option Building) → closed_out (changed (λ b. added b i) o) ≡ closed_out o
+    go None = refl
+    go (Some b) = refl

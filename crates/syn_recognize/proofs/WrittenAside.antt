@@ -1,12 +1,12 @@
 -- Reading without writing in place.
-use Rattle.std.proofs.Common.{◌≡◌, Bool, true, false, Some, None, refl, ap, ◌∙◌}
-use Rattle.syn_grammar.specs.Tokens.{Stream, Look, end}
+use Rattle.std.proofs.Common.{◌≡◌, Bool, true, false, Some, None, refl, sym, ap, ◌∙◌}
+use Rattle.syn_grammar.specs.Tokens.{Stream, Look, end, pick}
 use Rattle.syn_grammar.specs.Grammar.{Nothing, Right, Vanishing, Captured, Grammar, vanishing, captured}
 use Rattle.syn_grammar.specs.Take.{Out, before, sees}
 use Rattle.syn_grammar.specs.Run.{branch, caught, parse_form, vanish}
 use Rattle.syn_recognize.specs.PrintedRows.{way}
-use Rattle.syn_recognize.specs.Written.{Written, adds, drops, unwritten}
-use Rattle.syn_recognize.specs.Copies.{Reached, copied, copy_form, next, forgetting, capturing}
+use Rattle.syn_recognize.specs.Written.{Written, adds, closed, drops, stream_of, unwritten}
+use Rattle.syn_recognize.specs.Copies.{Reached, Refused, copied, copy_form, next, forgetting, capturing, joining}
 use Rattle.syn_recognize.proofs.Copied.{nothing}
 use Rattle.syn_recognize.proofs.Writes.{adds_nothing}
 
@@ -46,3 +46,10 @@ dropped_is g w ts e = go (parse_form g ts)
     go : (o : Out) → copied w o ≡ next (copied unwritten o) (forgetting w)
     go None = refl
     go (Some p) = ap (λ v. Reached v p.1) (adds_nothing w (way w.printing p.0) e)
+
+-- what was written aside is appended, where no group is open
+pub joined : (u w : Written) (i ts : Stream) → closed w ≡ true → i ≡ stream_of w → joining u w ts ≡ Reached (adds u i) ts
+joined u w i ts e f = ap (λ c. pick c (Reached (adds u (stream_of w)) ts) Refused) e ∙ ap (λ j. Reached (adds u j) ts) (sym f)
+
+pub not_joined : (u w : Written) (ts : Stream) → closed w ≡ false → joining u w ts ≡ Refused
+not_joined u w ts e = ap (λ c. pick c (Reached (adds u (stream_of w)) ts) Refused) e

@@ -1,30 +1,23 @@
 -- WHAT IS WRITTEN of a tree that is read, after what was written before.
-use Rattle.std.specs.Prelude.{◌≡◌, true, Bool, ℕ, false, [], ◌∷◌, Some, None, Result, Ok, Err}
+use Rattle.std.specs.Prelude.{◌≡◌, true, Bool, ℕ, false, Some, None, Result, Ok, Err}
 use Rattle.syn_grammar.specs.Words.{comma}
-use Rattle.syn_grammar.specs.Tokens.{Span, Stream, call_site, pick}
+use Rattle.syn_grammar.specs.Tokens.{Span, Stream, end, punct, call_site, pick}
 use Rattle.syn_grammar.specs.Rules.{Rule}
-use Rattle.syn_grammar.specs.Grammar.{Grammar, at_row_comma}
+use Rattle.syn_grammar.specs.Grammar.{Syntax, Grammar, Last, More, at_row_comma}
 use Rattle.syn_grammar.specs.Take.{Out, before, is_end, sees, take_mark}
-use Rattle.syn_grammar.specs.Run.{parse_form, rows, span_of}
+use Rattle.syn_grammar.specs.Run.{parse_form, rows}
 use Rattle.syn_grammar.proofs.Said.{start_of}
-use Rattle.syn_recognize.specs.PrintedRows.{way, firsts, others_of, row_of}
-use Rattle.syn_recognize.specs.Written.{Written, adds, leaves, stream_of}
-use Rattle.syn_recognize.specs.Guesses.{Guesses, same_guess, same_guesses}
+use Rattle.syn_recognize.specs.PrintedRows.{way, with_comma, others_of, row_of}
+use Rattle.syn_recognize.specs.Written.{Written, adds, closed, leaves, stream_of}
 use Rattle.syn_recognize.specs.Ordered.{member}
 use Rattle.syn_recognize.specs.declared.list.List as list
 use Rattle.syn_recognize.specs.Trailing.{ends_by}
 
--- the output and the tokens left; or nothing is read; or a guess was wrong, and nothing is known
+-- the output and the tokens left; or nothing is read. Stuck is for proofs alone: there a guess was wrong, and nothing is known
 pub data Copy : Type 0 where
   Reached : Written → Stream → Copy
   Refused : Copy
   Stuck : Copy
-
--- the second is the first, unless a guess was wrong
-abbrev pub Leads : Copy → Copy → Type 0
-Leads a (Reached w ts) = a ≡ Reached w ts
-Leads a Refused = a ≡ Refused
-Leads a Stuck = Unit {0}
 
 -- the result of a parse, with its tree after what was written
 abbrev pub copied : Written → Out → Copy
@@ -64,11 +57,11 @@ copy_form g w ts = copied w (parse_form g ts)
 abbrev pub forgetting : Written → Written → Stream → Copy
 forgetting u w ts = Reached u ts
 
--- the same, from there on
-abbrev pub returning : Written → Stream → Written → Stream → Copy
-returning u begin w ts = Reached u begin
+-- the output before it, and what was written aside; nothing is read where a group is still open
+abbrev pub joining : Written → Written → Stream → Copy
+joining u w ts = pick (closed w) (Reached (adds u (stream_of w)) ts) Refused
 
--- the same, with the tokens read from there on copied unchanged
+-- the output before it, with the tokens read from there on copied unchanged
 abbrev pub capturing : Written → Stream → Written → Stream → Copy
 capturing u begin w ts = Reached (adds u (before begin ts)) ts
 
@@ -85,35 +78,29 @@ copy_row k w ts = copied_row w (rows (member k) ts)
 abbrev pub after_member : list.List → Written → Stream → Copy
 after_member k w ts = pick (sees at_row_comma ts) (next (copied w (take_mark comma ts)) (copy_row k)) (Reached w ts)
 
--- where the first members of a list, or of what is left of it, were written already, as they were guessed
-abbrev pub copied_others : Guesses → Written → Out → Copy
-copied_others l w (Some p) = pick (same_guesses (firsts p.0) l) (Reached (adds w (others_of w.printing p.0)) p.1) Stuck
-copied_others l w None = Refused
+-- THE REST OF A LIST whose other members so far are written aside: the members of the first form are added to the output before it
 
-unfoldable pub copy_others : list.List → Guesses → Written → Stream → Copy
-copy_others k l w ts = copied_others l w (rows (member k) ts)
+-- the members of the first form, each with its comma; the last, where it has none, gets one
+abbrev pub late_of : Bool → Syntax → Stream
+late_of a (More true s sp t) = with_comma (way a s) sp (late_of a t)
+late_of a (More false s sp t) = late_of a t
+late_of a (Last true s) = with_comma (way a s) call_site end
+late_of a t = end
 
--- no member is left
-abbrev pub none_left : Guesses → Written → Stream → Copy
-none_left l w ts = pick (same_guesses [] l) (Reached w ts) Stuck
+abbrev pub copied_others : Written → Written → Out → Copy
+copied_others u w (Some p) = joining (adds u (late_of u.printing p.0)) (adds w (others_of w.printing p.0)) p.1
+copied_others u w None = Refused
+
+unfoldable pub copy_others : list.List → Written → Written → Stream → Copy
+copy_others k u w ts = copied_others u w (rows (member k) ts)
 
 -- what follows another member there
-abbrev pub after_other : list.List → Guesses → Written → Stream → Copy
-after_other k l w ts = pick (sees at_row_comma ts) (next (copied w (take_mark comma ts)) (copy_others k l)) (none_left l w ts)
+abbrev pub after_other : list.List → Written → Written → Stream → Copy
+after_other k u w ts = pick (sees at_row_comma ts) (next (copied w (take_mark comma ts)) (copy_others k u)) (joining u w ts)
 
--- the next guess is this
-abbrev pub guessed : Guesses → Stream → Span → (Guesses → Copy) → Copy
-guessed [] i sp q = Stuck
-guessed (p ∷ l) i sp q = pick (same_guess p (i, sp)) (q l) Stuck
-
--- what follows after the comma of a guessed member
-abbrev pub late_comma : list.List → Guesses → Written → Stream → Out → Copy
-late_comma k l u i (Some c) = guessed l i (span_of c.0) (λ m. copy_others k m u c.1)
-late_comma k l u i None = Refused
-
--- what follows a guessed member that was written aside
-abbrev pub after_late : list.List → Guesses → Written → Written → Stream → Copy
-after_late k l u w ts = pick (sees at_row_comma ts) (late_comma k l u (stream_of w) (take_mark comma ts)) (guessed l (stream_of w) call_site (λ m. none_left m u ts))
+-- what follows a member of the first form there; the others are w
+abbrev pub after_late : list.List → Written → Written → Stream → Copy
+after_late k w u ts = pick (sees at_row_comma ts) (next (copied u (take_mark comma ts)) (λ v r. copy_others k v w r)) (joining (adds u (punct 44 false call_site end)) w ts)
 
 -- one of two forms, by whether the tokens read from there on end with a group in braces
 abbrev pub by_braces : Grammar → Grammar → Stream → Written → Stream → Copy

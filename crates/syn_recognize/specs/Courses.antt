@@ -1,9 +1,9 @@
--- WHAT IS WRITTEN ON A COURSE. Whether all is stored verbatim is guessed beforehand, and so is how an impl's generics without parameters
--- are printed; after a wrong guess nothing is known.
-use Rattle.std.specs.Prelude.{Bool, true, false, Option, Some, None}
+-- WHAT IS WRITTEN ON A COURSE. Its end decides whether all is stored verbatim, and how an impl's generics without parameters are printed.
+use Rattle.std.specs.Prelude.{◌≡◌, Bool, true, false, Box, Option, Some, None, Result, Ok, Err}
+use Rattle.std.specs.Global.{Global}
 use Rattle.syn_grammar.specs.Words.{less}
 use Rattle.syn_grammar.specs.Tokens.{Stream, end, punct, Brace, call_site, pick, at_generics}
-use Rattle.syn_grammar.specs.Rules.{for_self_type, rooted_trees, statements}
+use Rattle.syn_grammar.specs.Rules.{for_self_type, rooted_trees}
 use Rattle.syn_grammar.specs.Grammar.{Grammar, rule, empty, inside, ordered, vanishing, at_row_end, when◌then◌else◌}
 use Rattle.syn_grammar.specs.Take.{Out, before, sees, take_mark}
 use Rattle.syn_grammar.specs.DecidedByTokens.{roots}
@@ -12,14 +12,13 @@ use Rattle.syn_recognize.specs.Forms.{grammar_of}
 use Rattle.syn_recognize.specs.Names.{look_of}
 use Rattle.syn_recognize.specs.Ordered.{first_form, other_form}
 use Rattle.syn_recognize.specs.declared.list.List.TheVariants as List-m
-use Rattle.syn_recognize.specs.Written.{Written, adds, drops}
-use Rattle.syn_recognize.specs.Copies.{Copy, Reached, Refused, Stuck, next, copy_form}
+use Rattle.syn_recognize.specs.Written.{Written, adds, blank, unwritten}
+use Rattle.syn_recognize.specs.Copies.{Copy, Reached, Refused, next, capturing, joining, copy_form}
 use Rattle.syn_recognize.specs.Course.{Course, reads, turns, rooted, followed, rest, kept, lists, led, self_type}
 use Rattle.syn_recognize.specs.Stages.{stage_course}
-use Rattle.syn_recognize.specs.declared.guess.Guess.{Guess}
+use Rattle.syn_recognize.specs.declared.draft.Begun.{Begun}
+use Rattle.syn_recognize.specs.declared.draft.Draft.{Draft}
 use Rattle.syn_recognize.specs.declared.plan.Plan.{Plan}
-use Rattle.syn_recognize.specs.declared.plan.Planned.{Planned}
-use Rattle.syn_recognize.specs.declared.plan.Planned.TheVariants as Planned-m
 use Rattle.syn_recognize.specs.declared.plan.Plan.TheVariants as Plan-m
 
 abbrev pub course_of : Plan → Course
@@ -68,70 +67,70 @@ no_parameters ts = pick (sees at_generics ts) (ends_next (take_mark less ts)) tr
 abbrev pub written_generics : Stream
 written_generics = punct 60 false call_site (punct 62 false call_site end)
 
--- what is written where there are no parameters, by a guess of `< >`
-abbrev pub guessed_generics : Bool → Stream
-guessed_generics x = pick x written_generics end
+-- WHERE THE OUTPUT IS DROPPED, its end decides nothing
+abbrev pub copy_dropped : Course → Written → Stream → Copy
+copy_dropped (reads g d) w ts = next (copy_form g w ts) (copy_dropped d)
+copy_dropped (turns c d e) w ts = pick (sees c ts) (copy_dropped d w ts) (copy_dropped e w ts)
+copy_dropped (rooted d e) w ts = next (copy_form trees_in_braces w ts) (by_roots ts (copy_dropped d) (copy_dropped e))
+copy_dropped (followed d g) w ts = next (copy_dropped d w ts) (copy_form g)
+copy_dropped (rest g) w ts = copy_form g w ts
+copy_dropped (kept g) w ts = copy_form g w ts
+copy_dropped (lists d) w ts = next (copy_form shown_generics w ts) (copy_dropped d)
+copy_dropped (led d) w ts = copy_dropped d w ts
+copy_dropped (self_type d) w ts = next (copy_form (rule for_self_type) w ts) (copy_dropped d)
 
--- WHERE THE GUESS IS that all is stored verbatim
-abbrev pub copy_kept : Course → Written → Stream → Copy
-copy_kept (reads g d) w ts = next (copy_form g w ts) (copy_kept d)
-copy_kept (turns c d e) w ts = pick (sees c ts) (copy_kept d w ts) (copy_kept e w ts)
-copy_kept (rooted d e) w ts = next (copy_form trees_in_braces w ts) (by_roots ts (copy_kept d) (copy_kept e))
-copy_kept (followed d g) w ts = copy_kept d w ts
-copy_kept (rest g) w ts = Stuck
-copy_kept (kept g) w ts = copy_form g w ts
-copy_kept (lists d) w ts = next (copy_form shown_generics w ts) (copy_kept d)
-copy_kept (led d) w ts = copy_kept d w ts
-copy_kept (self_type d) w ts = next (copy_form (rule for_self_type) w ts) (copy_kept d)
+-- WHERE IT IS NOT, the tokens are written aside up to the end: u and b are the output before them and the tokens with which they begin.
+-- The head is what was written aside before an impl's generics without parameters, while it isn't known whether they are printed as `< >`
 
--- WHERE THE GUESS IS that it is not. Of an impl's generics without parameters it may be guessed whether `< >` is printed (none: they are
--- shown, or the guess is settled).
+-- the head, and what follows it
+abbrev pub headed : Option Written → Written → Stream → Copy
+headed None w ts = Reached w ts
+headed (Some h) w ts = joining h w ts
 
--- a guess is settled at the end: generics would be read nowhere
-abbrev pub settled : Option Bool → Copy → Copy
-settled (Some true) o = Stuck
-settled (Some false) o = o
-settled None o = o
+-- generics would be read here, or not: then nothing is known of the head
+abbrev pub headed_by : Option Written → Bool → (Option Written → Written → Stream → Copy) → Written → Stream → Copy
+headed_by None z q w ts = q None w ts
+headed_by (Some h) true q w ts = next (joining (adds h written_generics) w ts) (q None)
+headed_by (Some h) false q w ts = q (Some h) w ts
 
--- generics would be read there, or not
-abbrev pub led_by : Option Bool → Bool → (Option Bool → Copy) → Copy
-led_by None z q = q None
-led_by (Some x) true q = pick x (q None) Stuck
-led_by (Some x) false q = q (Some x)
+-- generics that are printed: where there are no parameters, what follows is written aside once more
+abbrev pub printed_lists : Bool → (Option Written → Written → Stream → Copy) → Option Written → Written → Stream → Copy
+printed_lists true q h w ts = next (copy_form printed_generics w ts) (λ v r. q (Some v) (blank true) r)
+printed_lists false q h w ts = next (copy_form printed_generics w ts) (q h)
 
--- generics whose parameters are guessed, and what follows
-abbrev pub guessed_lists : Bool → Bool → (Option Bool → Written → Stream → Copy) → Written → Stream → Copy
-guessed_lists true x q w ts = next (copy_form printed_generics w ts) (λ v r. q (Some x) (adds v (guessed_generics x)) r)
-guessed_lists false x q w ts = next (copy_form printed_generics w ts) (q None)
+abbrev pub copy_aside : Written → Stream → Course → Option Written → Written → Stream → Copy
+copy_aside u b (reads g d) h w ts = next (copy_form g w ts) (copy_aside u b d h)
+copy_aside u b (turns c d e) h w ts = pick (sees c ts) (copy_aside u b d h w ts) (copy_aside u b e h w ts)
+copy_aside u b (rooted d e) h w ts = next (copy_form trees_in_braces w ts) (by_roots ts (copy_aside u b d h) (copy_aside u b e h))
+copy_aside u b (followed d g) h w ts = next (copy_aside u b d h w ts) (copy_form g)
+copy_aside u b (rest g) h w ts = next (next (headed h w ts) (joining u)) (copy_form g)
+copy_aside u b (kept g) h w ts = next (copy_form g unwritten ts) (capturing u b)
+copy_aside u b (lists d) h w ts = pick w.printing (printed_lists (no_parameters ts) (copy_aside u b d) h w ts) (next (copy_form shown_generics w ts) (copy_aside u b d h))
+copy_aside u b (led d) h w ts = headed_by h (sees at_generics ts) (copy_aside u b d) w ts
+copy_aside u b (self_type d) h w ts = headed_by h (leads_on ts) (λ m v r. next (copy_form (rule for_self_type) v r) (copy_aside u b d m)) w ts
 
-abbrev pub copy_course : Course → Option Bool → Written → Stream → Copy
-copy_course (reads g d) l w ts = next (copy_form g w ts) (copy_course d l)
-copy_course (turns c d e) l w ts = pick (sees c ts) (copy_course d l w ts) (copy_course e l w ts)
-copy_course (rooted d e) l w ts = next (copy_form trees_in_braces w ts) (by_roots ts (copy_course d l) (copy_course e l))
-copy_course (followed d g) l w ts = next (copy_course d l w ts) (copy_form g)
-copy_course (rest g) l w ts = settled l (copy_form g w ts)
-copy_course (kept g) l w ts = pick (drops w) (copy_form g w ts) Stuck
-copy_course (lists d) None w ts = next (copy_form shown_generics w ts) (copy_course d None)
-copy_course (lists d) (Some x) w ts = guessed_lists (no_parameters ts) x (copy_course d) w ts
-copy_course (led d) l w ts = led_by l (sees at_generics ts) (λ m. copy_course d m w ts)
-copy_course (self_type d) l w ts = led_by l (leads_on ts) (λ m. next (copy_form (rule for_self_type) w ts) (copy_course d m))
+-- either, by what is undecided
+abbrev pub head_of : Option (Box Written Global) → Option Written
+head_of None = None
+head_of (Some h) = Some h.value
 
--- whether they are printed as `< >` is guessed where trees are written as they are printed, and only there
-abbrev pub Fair : Bool → Option Bool → Type 0
-Fair true None = ⊥
-Fair true (Some x) = Unit {0}
-Fair false None = Unit {0}
-Fair false (Some x) = ⊥
+abbrev pub copy_begun : Option Begun → Option Written → Course → Written → Stream → Copy
+copy_begun None h d w ts = copy_dropped d w ts
+copy_begun (Some o) h d w ts = copy_aside o.before.value o.begin d h w ts
 
--- by a guess
-abbrev pub copy_way : Bool → Course → Option Bool → Written → Stream → Copy
-copy_way true d l w ts = copy_kept d w ts
-copy_way false d l w ts = copy_course d l w ts
+abbrev pub copy_draft : Draft → Course → Written → Stream → Copy
+copy_draft g d w ts = copy_begun g.begun (head_of g.head) d w ts
 
-abbrev pub copy_guess : Guess → Course → Written → Stream → Copy
-copy_guess g d w ts = copy_way g.kept d g.leads w ts
+-- what was written aside is appended to the output before it
+abbrev pub joined : Option Begun → Option Written → Written → Stream → Copy
+joined None h w ts = Reached w ts
+joined (Some o) h w ts = next (headed h w ts) (joining o.before.value)
 
--- what follows an item that a plan reads
-abbrev pub after_form : Planned → Grammar
-after_form Planned-m.Statements = rule statements
-after_form _ = empty
+-- whether generics would be read here decides how those without parameters are printed
+abbrev pub decided : Option Begun → Option Written → Bool → (Option Begun → Option Written → Written → Stream → Copy) → Written → Stream → Copy
+decided None h z q w ts = q None h w ts
+decided (Some o) h z q w ts = headed_by h z (q (Some o)) w ts
+
+abbrev pub Decides : {E : Type 0} → (E → Type 0) → Draft → Bool → Written → Stream → Result Draft E → Written → Type 0
+Decides refusal g z w ts (Ok d) v = (q : Option Begun → Option Written → Written → Stream → Copy) → decided g.begun (head_of g.head) z q w ts ≡ q d.begun (head_of d.head) v ts
+Decides refusal g z w ts (Err e) v = refusal e → (q : Option Begun → Option Written → Written → Stream → Copy) → decided g.begun (head_of g.head) z q w ts ≡ Refused

@@ -1,11 +1,23 @@
 -- LOOKAHEADS IN ITEMS, in parts.
+use Rattle.std.specs.Prelude.{Bool}
 use Rattle.syn_grammar.specs.Words.{w_async, w_auto, w_const, w_default, w_enum, w_extern, w_fn, w_impl, w_macro, w_mod, w_move, w_pub, w_static, w_struct, w_trait, w_type, w_union, w_unsafe, w_use, bar, less_equals, less, colons, greater, w_as}
-use Rattle.syn_grammar.specs.Tokens.{Look, Brace, Paren, Bang_brace, Bang_name, Begins_item, Not_item, at_mark, at_parameter, at_word, at_group, ahead, ◌or_else◌, ◌and_also◌, ◌but_not◌}
+use Rattle.syn_grammar.specs.Tokens.{Look, Brace, Paren, Bang_brace, Bang_name, Before_macro, Begins_item, Not_item, Stream, and, at_mark, at_parameter, at_path_word, at_word, at_group, ahead, ◌or_else◌, ◌and_also◌, ◌but_not◌}
+use Rattle.syn_grammar.specs.Take.{sees}
 use Rattle.syn_grammar.specs.Table.{at_lone_crate, at_module_path}
 
 -- a macro with a name
 abbrev pub at_named_macro : Look
 at_named_macro = at_module_path and_also ahead Bang_name
+
+-- a macro whose path continues here; one with braces; and one with a name
+abbrev pub macro_from : Stream → Bool
+macro_from ts = and (sees at_path_word ts) (sees (ahead Before_macro) ts)
+
+abbrev pub brace_macro_from : Stream → Bool
+brace_macro_from ts = and (sees at_path_word ts) (sees (ahead Bang_brace) ts)
+
+abbrev pub named_macro_from : Stream → Bool
+named_macro_from ts = and (sees at_path_word ts) (sees (ahead Bang_name) ts)
 
 -- a word that always begins an item: one that isn't the word of a kind of types; or one that is, `impl` or `macro`
 abbrev pub at_first_item_word : Look

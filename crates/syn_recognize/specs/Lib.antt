@@ -6,8 +6,6 @@ pub mod Trailing
 pub mod Leaves
 pub mod PrintedRows
 pub mod Written
-pub mod Guesses
-pub mod Late
 pub mod Ordered
 pub mod Fading
 pub mod Supplied
@@ -23,6 +21,7 @@ pub mod Course
 pub mod Stages
 pub mod Courses
 pub mod RootMarks
+pub mod Stops
 pub mod Steps
 pub mod Printed
 pub mod Parts

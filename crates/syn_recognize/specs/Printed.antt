@@ -11,6 +11,11 @@ abbrev pub ShowsAndPrints : {E : Type 0} → (E → Type 0) → Rule → Stream 
 ShowsAndPrints refusal k ts (Ok tokens) r = (s : Syntax) × (parse_rule k ts ≡ Some (s, r)) × (tokens.shown ≡ show s) × (tokens.printed ≡ print s)
 ShowsAndPrints refusal k ts (Err e) r = refusal e → parse_rule k ts ≡ None
 
+-- the result of a rule: the tokens left, and the shown ones
+abbrev pub Shows : {E : Type 0} → (E → Type 0) → Rule → Stream → Result Stream E → Stream → Type 0
+Shows refusal k ts (Ok tokens) r = (s : Syntax) × (parse_rule k ts ≡ Some (s, r)) × (tokens ≡ show s)
+Shows refusal k ts (Err e) r = refusal e → parse_rule k ts ≡ None
+
 -- the result of a rule: the tokens left, and the printed ones
 abbrev pub Prints : {E : Type 0} → (E → Type 0) → Rule → Stream → Result Stream E → Stream → Type 0
 Prints refusal k ts (Ok tokens) r = (s : Syntax) × (parse_rule k ts ≡ Some (s, r)) × (tokens ≡ print s)

@@ -1,8 +1,8 @@
 -- WHAT IS BEING WRITTEN: a token stream, of trees as they are shown or as they are printed; or nothing at all.
-use Rattle.std.specs.Prelude.{Bool, true, false, Option, Some, None, [], refl}
+use Rattle.std.specs.Prelude.{Bool, true, false, Option, Some, None, List, [], ◌∷◌, refl}
 use Rattle.std.specs.Coded.{Coded, code_by, coded×, coded_bool, coded_option}
 use Rattle.syn_grammar.specs.Tokens.{Span, Delimiter, Stream, end}
-use Rattle.syn_tokens.specs.Building.{Building, coded_building, added, into_group, out_of_group}
+use Rattle.syn_tokens.specs.Building.{Building, OpenGroup, coded_building, added, into_group, out_of_group}
 
 pub record Written : Type 0 where
   pub printing : Bool  -- trees are written as they are printed, else as they are shown
@@ -34,6 +34,18 @@ drops_in (Some b) = false
 -- what is written is dropped
 abbrev pub drops : Written → Bool
 drops w = drops_in w.out
+
+abbrev pub none_open : List OpenGroup → Bool
+none_open [] = true
+none_open (g ∷ gs) = false
+
+abbrev pub closed_in : Option Building → Bool
+closed_in None = true
+closed_in (Some b) = none_open b.open_groups
+
+-- no group is open
+abbrev pub closed : Written → Bool
+closed w = closed_in w.out
 
 abbrev pub stream_in : Option Building → Stream
 stream_in None = end

@@ -1,18 +1,20 @@
 //! Reading without writing in place: the output is dropped, or written aside.
-ghost use Rattle.std.specs.Prelude.{◌≡◌, true, false};
+ghost use Rattle.std.specs.Prelude.{◌≡◌, true, false, IfOk, OnErr, OnOk};
 ghost use Rattle.syn_grammar.specs.Grammar.{vanishing, captured};
-ghost use Rattle.syn_parse.specs.Refusals.{IsSyntax};
 ghost use Rattle.syn_recognize.specs.Forms.{grammar_of};
 ghost use Rattle.syn_recognize.specs.Names.{look_of};
-ghost use Rattle.syn_recognize.specs.Copies.{copy_form, forgetting, capturing};
+ghost use Rattle.syn_recognize.specs.Copies.{copy_form, forgetting, capturing, joining};
 ghost use Rattle.syn_recognize.specs.Steps.{Steps, Runs};
+ghost use Rattle.syn_recognize.specs.Stops.{IsFault};
+ghost use Rattle.syn_recognize.specs.Written.{closed, stream_of};
 
 use crate::form::Form;
 use crate::look::{Look, holds};
 use crate::step::Step;
+use crate::stop::{Stepped, Stop, unexpected};
 use crate::writer::Writer;
 use syn_parse::buffer::ParseBuffer;
-use syn_parse::read::refusal::{Parsed, Refusal};
+use syn_tokens::stream::TokenStream;
 
 /// Reads a part that is never printed, if the lookahead holds.
 #[tactic(auto, using(crate::proofs::Todo::push, crate::proofs::WrittenAside::hidden_absent, crate::proofs::WrittenAside::hidden_is))]
@@ -22,10 +24,10 @@ pub(crate) fn read_hidden<'a>(
     steps: &mut Vec<Step<'a>>,
     out: &mut Writer,
     input: &ParseBuffer<'a>,
-) -> Parsed<()>
-    ensures { Steps IsSyntax steps.old.items (copy_form (vanishing true (look_of look.now) (grammar_of form.now)) out.old input.now) result steps.new.items out.new input.now }
+) -> Stepped<()>
+    ensures { Steps IsFault steps.old.items (copy_form (vanishing true (look_of look.now) (grammar_of form.now)) out.old input.now) result steps.new.items out.new input.now }
 {
-    if !holds(look, input)? {
+    if !holds(look, input) {
         return Ok(());
     }
     let before = out.drop_aside()?;
@@ -35,10 +37,10 @@ pub(crate) fn read_hidden<'a>(
 }
 
 /// Restores the output that was set aside.
-pub(crate) fn forget(before: Box<Writer>, out: &mut Writer, input: &ParseBuffer<'_>) -> Parsed<()>
-    ensures { Runs IsSyntax (forgetting before.value out.old input.now) result out.new input.now }
+pub(crate) fn forget(before: Box<Writer>, out: &mut Writer, input: &ParseBuffer<'_>) -> Stepped<()>
+    ensures { Runs IsFault (forgetting before.value out.old input.now) result out.new input.now }
 {
-    let _dropped = out.put_back(before)?;
+    out.restore(before);
     Ok(())
 }
 
@@ -49,8 +51,8 @@ pub(crate) fn read_captured<'a>(
     steps: &mut Vec<Step<'a>>,
     out: &mut Writer,
     input: &ParseBuffer<'a>,
-) -> Parsed<()>
-    ensures { Steps IsSyntax steps.old.items (copy_form (captured (grammar_of form.now)) out.old input.now) result steps.new.items out.new input.now }
+) -> Stepped<()>
+    ensures { Steps IsFault steps.old.items (copy_form (captured (grammar_of form.now)) out.old input.now) result steps.new.items out.new input.now }
 {
     let before = out.drop_aside()?;
     steps.push(Step::Capture(before, input.fork()))?;
@@ -66,15 +68,46 @@ pub(crate) fn capture<'a>(
     begin: &ParseBuffer<'a>,
     out: &mut Writer,
     input: &ParseBuffer<'a>,
-) -> Parsed<()>
-    ensures { Runs IsSyntax (capturing before.value begin.now out.old input.now) result out.new input.now }
+) -> Stepped<()>
+    ensures { Runs IsFault (capturing before.value begin.now out.old input.now) result out.new input.now }
 {
-    let _dropped = out.put_back(before)?;
+    out.restore(before);
     if out.is_dropping() {
         return Ok(());
     }
     match begin.between(input) {
         Ok(tokens) => Ok(out.append(&tokens)?),
-        Err(_memory) => Err(Refusal::Memory(None)),
+        Err(error) => Err(Stop::Memory(error.into_alloc_error())),
+    }
+}
+
+/// Restores the output that was set aside, and appends what was written aside. Stops where memory is refused, or where a group of it is
+/// still open: then nothing is read.
+#[tactic(auto, using(crate::proofs::WrittenAside::joined, crate::proofs::WrittenAside::not_joined))]
+pub(crate) fn join(
+    mut before: Box<Writer>,
+    out: &mut Writer,
+    input: &ParseBuffer<'_>,
+) -> Stepped<()>
+    ensures { Runs IsFault (joining before.value out.old input.now) result out.new input.now }
+{
+    out.exchange(&mut before);
+    let aside = Box::into_inner(before);
+    if !aside.is_closed() {
+        return Err(unexpected(input, "unexpected token"));
+    }
+    out.append_written(aside)?;
+    Ok(())
+}
+
+/// The tokens of an output. Stops where a group is still open.
+pub(crate) fn written(out: Writer, input: &ParseBuffer<'_>) -> Stepped<TokenStream>
+    ensures tokens { IfOk result (λ tokens. tokens ≡ stream_of out) }
+    ensures closed { OnOk result (closed out ≡ true) }
+    ensures left_open { OnErr result (closed out ≡ false) }
+{
+    match out.finish() {
+        Some(tokens) => Ok(tokens),
+        None => Err(unexpected(input, "unexpected token")),
     }
 }

@@ -1,14 +1,14 @@
 //! Deferred trees: trees that are stored as their tokens, and parsed when they are opened. A type may hold one that leads back to itself
 //! through its tree, because nothing that is stored, read, copied, compared, printed or dropped depends on the tree's type.
-ghost use Rattle.std.specs.Prelude.{◌≡◌, ◌↔◌, [], true, None, Some, IfOk, IfErr, OnOk, IsTrue};
+ghost use Rattle.std.specs.Prelude.{◌≡◌, ◌↔◌, [], true, None, Some, IfOk, IfErr, OnOk, IsTrue, alloc_error};
 ghost use Rattle.syn_grammar.specs.Tokens.{end};
 ghost use Rattle.syn_grammar.specs.Grammar.{rule, show, print, plain_syntax};
 ghost use Rattle.syn_grammar.specs.Run.{parse_rule};
 ghost use Rattle.syn_grammar.specs.Same.{same_syntax};
 ghost use Rattle.syn_grammar.specs.IsAlone.{is_alone};
-ghost use Rattle.syn_grammar.specs.Promises.{Computes, Takes, itself};
+ghost use Rattle.syn_grammar.specs.Promises.{Computes, Never, Takes, itself};
 ghost use Rattle.syn_parse.specs.Form.{of};
-ghost use Rattle.syn_parse.specs.Refusals.{IsSyntax};
+ghost use Rattle.syn_parse.specs.Refusals.{IsSyntax, IsTooDeep};
 ghost use Rattle.syn_parse.specs.declared.read.refusal.Refusal.TheVariants.{Memory};
 ghost use Rattle.syn_parse.specs.Meanings.{meaning_of_rule};
 ghost use Rattle.syn_tokens.specs.Faults.{IsSyntaxError};
@@ -151,7 +151,7 @@ impl<const KIND: usize> Deferred<KIND> {
     /// nesting depth.
     pub fn open<T: TreeOf<KIND>>(&self) -> Result<T>
         ensures ok { IfOk result (λ tree. T.whole tree ≡ self.now) }
-        ensures memory { IfErr result (λ e. e ≡ []) }
+        ensures no_fault { Never IsSyntaxError result }
     {
         let mut input = ParseBuffer::new(self.source());
         Ok(T::read_tree(&mut input)?)
@@ -171,12 +171,12 @@ impl<const KIND: usize> Deferred<KIND> {
 /// The print of a tree. Fails only where memory is refused.
 fn printed_tokens<T: ToTokens>(tree: &T, alloc: Global) -> Parsed<TokenStream>
     ensures print { IfOk result (λ stream. stream ≡ print (T.syntax tree.now)) }
-    ensures memory { IfErr result (λ e. e ≡ Memory None) }
+    ensures memory { IfErr result (λ e. e ≡ Memory alloc_error) }
 {
     let mut stream = TokenStream::new(alloc);
     match tree.to_tokens(&mut stream) {
         Ok(()) => Ok(stream),
-        Err(_memory) => Err(Refusal::Memory(None)),
+        Err(error) => Err(Refusal::Memory(error.into_alloc_error())),
     }
 }
 
@@ -199,6 +199,7 @@ fn rule_of_kind(kind: usize) -> Rule
 fn tokens_of<const KIND: usize>(input: &mut ParseBuffer<'_>) -> Parsed<ShownAndPrinted>
     ensures reads { ShowsAndPrints IsSyntax (kind_rule KIND) input.old result input.new }
     ensures moved { Takes (least (kind_rule KIND)) input.old result input.new }
+    ensures shallow { Never IsTooDeep result }
 {
     if is_lone_literal(KIND, input) {
         return read_literal(input);
@@ -211,6 +212,7 @@ pub fn read_deferred<const KIND: usize>(input: &mut ParseBuffer<'_>) -> Parsed<D
     requires { is_alone (kind_rule KIND) ≡ true }
     ensures reads { Computes IsSyntax itself (parse_rule (kind_rule KIND) input.old) result input.new }
     ensures moved { Takes (least (kind_rule KIND)) input.old result input.new }
+    ensures shallow { Never IsTooDeep result }
 {
     let tokens = tokens_of::<KIND>(input)?;
     Ok(Deferred::of(tokens, input.alloc())?)
@@ -221,6 +223,7 @@ pub fn read_deferred_rest<const KIND: usize>(input: &mut ParseBuffer<'_>) -> Par
     ensures reads { Computes IsSyntax itself (whole_only (parse_rule (kind_rule KIND) input.old)) result input.new }
     ensures ended { OnOk result (input.new ≡ end) }
     ensures moved { Takes (least (kind_rule KIND)) input.old result input.new }
+    ensures shallow { Never IsTooDeep result }
 {
     let tokens = tokens_of::<KIND>(input)?;
     input.read_end()?;

@@ -6,24 +6,24 @@ ghost use Rattle.syn_grammar.specs.Rules.{lifetime_parameter};
 ghost use Rattle.syn_grammar.specs.Grammar.{rule, mark, token, word, ordered};
 ghost use Rattle.syn_grammar.specs.Run.{parse_form};
 ghost use Rattle.syn_grammar.specs.Table.{at_less, parameter};
-ghost use Rattle.syn_parse.specs.Refusals.{IsSyntax};
 ghost use Rattle.syn_recognize.specs.Forms.{grammar_of};
 ghost use Rattle.syn_recognize.specs.Names.{rule_of};
 ghost use Rattle.syn_recognize.specs.Ordered.{generics_form};
 ghost use Rattle.syn_recognize.specs.Fading.{fading_form, fading_look, head_form, list_rule, begins_list, Skips};
 ghost use Rattle.syn_recognize.specs.Copies.{copy_form, next};
 ghost use Rattle.syn_recognize.specs.Steps.{Steps};
+ghost use Rattle.syn_recognize.specs.Stops.{IsFault};
 
 use crate::form::Form;
 use crate::list::List;
 use crate::look::{at_parameter_end, at_predicate_end, at_supertraits_end, at_type_bounds_end};
 use crate::rules::{Rule, form_of};
 use crate::step::Step;
+use crate::stop::{Stepped, stopped};
 use crate::token::Token;
 use crate::words::{Mark, Word};
 use crate::writer::Writer;
 use syn_parse::buffer::ParseBuffer;
-use syn_parse::read::refusal::Parsed;
 use syn_tokens::lifetime::Lifetime;
 use syn_tokens::token::{Colon, Gt, Lt, Where};
 
@@ -89,8 +89,8 @@ fn at_head(part: Fading, input: &ParseBuffer<'_>) -> bool
 }
 
 /// Reads the token before the list, and writes nothing.
-fn skip_head(part: Fading, input: &mut ParseBuffer<'_>) -> Parsed<()>
-    ensures { Skips IsSyntax (parse_form (head_form part) input.old) result input.new }
+fn skip_head(part: Fading, input: &mut ParseBuffer<'_>) -> Stepped<()>
+    ensures { Skips IsFault (parse_form (head_form part) input.old) result input.new }
 {
     match part {
         Fading::Lifetimes => skip_colon(input),
@@ -102,19 +102,25 @@ fn skip_head(part: Fading, input: &mut ParseBuffer<'_>) -> Parsed<()>
 }
 
 /// Reads a colon.
-fn skip_colon(input: &mut ParseBuffer<'_>) -> Parsed<()>
-    ensures { Skips IsSyntax (parse_form (mark false colon) input.old) result input.new }
+#[tactic(auto, using(crate::proofs::Stops::token_shallow))]
+fn skip_colon(input: &mut ParseBuffer<'_>) -> Stepped<()>
+    ensures { Skips IsFault (parse_form (mark false colon) input.old) result input.new }
 {
-    let _colon: Colon = input.read()?;
-    Ok(())
+    match input.read_mark1(':', "expected `:`") {
+        Ok(_) => Ok(()),
+        Err(refusal) => Err(stopped(refusal)),
+    }
 }
 
 /// Reads `where`.
-fn skip_where(input: &mut ParseBuffer<'_>) -> Parsed<()>
-    ensures { Skips IsSyntax (parse_form (token [] (word w_where)) input.old) result input.new }
+#[tactic(auto, using(crate::proofs::Stops::token_shallow), unfolding(syn_tokens::specs::Leaves::is_known_word))]
+fn skip_where(input: &mut ParseBuffer<'_>) -> Stepped<()>
+    ensures { Skips IsFault (parse_form (token [] (word w_where)) input.old) result input.new }
 {
-    let _where: Where = input.read()?;
-    Ok(())
+    match input.read_word("where", "expected `where`") {
+        Ok(_) => Ok(()),
+        Err(refusal) => Err(stopped(refusal)),
+    }
 }
 
 /// Whether the list that is next has a member.
@@ -137,8 +143,8 @@ pub(crate) fn read_fading<'a>(
     steps: &mut Vec<Step<'a>>,
     out: &Writer,
     input: &mut ParseBuffer<'a>,
-) -> Parsed<()>
-    ensures { Steps IsSyntax steps.old.items (copy_form (fading_form part) out.now input.old) result steps.new.items out.now input.new }
+) -> Stepped<()>
+    ensures { Steps IsFault steps.old.items (copy_form (fading_form part) out.now input.old) result steps.new.items out.now input.new }
 {
     if !at_head(part, input) {
         return Ok(());
@@ -156,8 +162,8 @@ fn read_whole<'a>(
     steps: &mut Vec<Step<'a>>,
     out: &Writer,
     input: &ParseBuffer<'a>,
-) -> Parsed<()>
-    ensures { Steps IsSyntax steps.old.items (next (copy_form (head_form part) out.now input.now) (copy_form (rule (list_rule part)))) result steps.new.items out.now input.now }
+) -> Stepped<()>
+    ensures { Steps IsFault steps.old.items (next (copy_form (head_form part) out.now input.now) (copy_form (rule (list_rule part)))) result steps.new.items out.now input.now }
 {
     steps.push(Step::Form(form_of(list_of(part))))?;
     steps.push(Step::Form(head(part)))?;
@@ -171,10 +177,10 @@ fn read_printed<'a>(
     steps: &mut Vec<Step<'a>>,
     out: &Writer,
     input: &mut ParseBuffer<'a>,
-) -> Parsed<()>
+) -> Stepped<()>
     requires printing { out.now.printing ≡ true }
     requires head { sees (fading_look part) input.old ≡ true }
-    ensures { Steps IsSyntax steps.old.items (copy_form (fading_form part) out.now input.old) result steps.new.items out.now input.new }
+    ensures { Steps IsFault steps.old.items (copy_form (fading_form part) out.now input.old) result steps.new.items out.now input.new }
 {
     let mut ahead = input.fork();
     skip_head(part, &mut ahead)?;
@@ -191,8 +197,8 @@ pub(crate) fn read_generics<'a>(
     steps: &mut Vec<Step<'a>>,
     out: &Writer,
     input: &mut ParseBuffer<'a>,
-) -> Parsed<()>
-    ensures { Steps IsSyntax steps.old.items (copy_form generics_form out.now input.old) result steps.new.items out.now input.new }
+) -> Stepped<()>
+    ensures { Steps IsFault steps.old.items (copy_form generics_form out.now input.old) result steps.new.items out.now input.new }
 {
     if !input.peek::<Lt>() {
         return Ok(());
@@ -209,30 +215,28 @@ fn read_parameters<'a>(
     steps: &mut Vec<Step<'a>>,
     out: &Writer,
     input: &ParseBuffer<'a>,
-) -> Parsed<()>
-    ensures { Steps IsSyntax steps.old.items (copy_form (ordered (rule lifetime_parameter) parameter) out.now input.now) result steps.new.items out.now input.now }
+) -> Stepped<()>
+    ensures { Steps IsFault steps.old.items (copy_form (ordered (rule lifetime_parameter) parameter) out.now input.now) result steps.new.items out.now input.now }
 {
     steps.push(Step::Form(&PARAMETERS))?;
     Ok(())
 }
 
 /// Reads generics; without parameters nothing of them is printed.
-#[tactic(auto, using(crate::proofs::FadingParts::generics_bare, crate::proofs::FadingParts::generics_kept, crate::proofs::FadingParts::generics_refused, crate::proofs::FadingParts::generics_open))]
+#[tactic(auto, using(crate::proofs::PrintedGenerics::passed_bare, crate::proofs::PrintedGenerics::passed_kept))]
 fn read_printed_generics<'a>(
     steps: &mut Vec<Step<'a>>,
     out: &Writer,
     input: &mut ParseBuffer<'a>,
-) -> Parsed<()>
+) -> Stepped<()>
     requires printing { out.now.printing ≡ true }
     requires head { sees at_less input.old ≡ true }
-    ensures { Steps IsSyntax steps.old.items (copy_form generics_form out.now input.old) result steps.new.items out.now input.new }
+    ensures { Steps IsFault steps.old.items (copy_form generics_form out.now input.old) result steps.new.items out.now input.new }
 {
-    let mut ahead = input.fork();
-    let _less: Lt = ahead.read()?;
+    let ahead = input.past();
     if !ahead.peek::<Gt>() {
         return read_parameters(steps, out, input);
     }
-    let _greater: Gt = ahead.read()?;
-    input.advance_to(&ahead);
+    input.advance_to(&ahead.past());
     Ok(())
 }

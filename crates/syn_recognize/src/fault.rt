@@ -1,8 +1,8 @@
 //! Error messages of forms that have a text of their own.
-ghost use Rattle.syn_parse.specs.Refusals.{IsSyntax};
+ghost use Rattle.syn_recognize.specs.Stops.{IsFault};
 
+use crate::stop::{Stop, unexpected};
 use syn_parse::buffer::ParseBuffer;
-use syn_parse::read::refusal::Refusal;
 
 /// Why a form isn't read.
 #[derive(Clone, Copy)]
@@ -20,18 +20,19 @@ pub enum Fault {
 }
 
 impl Fault {
-    /// The refusal at the next token; of a default value, at the token after its `=`.
-    pub(crate) fn refusal(self, input: &ParseBuffer<'_>) -> Refusal
-        ensures { IsSyntax result }
+    /// The fault at the next token; of a default value, at the token after its `=`.
+    pub(crate) fn stop(self, input: &ParseBuffer<'_>) -> Stop
+        ensures { IsFault result }
     {
         match self {
-            Fault::Unexpected => input.refusal("unexpected token"),
-            Fault::MissingEnd => input.refusal("unexpected token, expected `;`"),
-            Fault::MissingSemi => input.refusal("expected semicolon"),
-            Fault::DefaultValue => input.refusal_after(
+            Fault::Unexpected => unexpected(input, "unexpected token"),
+            Fault::MissingEnd => unexpected(input, "unexpected token, expected `;`"),
+            Fault::MissingSemi => unexpected(input, "expected semicolon"),
+            Fault::DefaultValue => unexpected(
+                &input.past(),
                 "field default value is only supported in structs with named fields",
             ),
-            Fault::BreakValue => input.refusal("`break` with a value is not read here"),
+            Fault::BreakValue => unexpected(input, "`break` with a value is not read here"),
         }
     }
 }

@@ -1,7 +1,6 @@
 //! Lookaheads in items.
 ghost use Rattle.std.specs.Prelude.{◌≡◌, codes};
 ghost use Rattle.syn_grammar.specs.Grammar.{at_unnamed};
-ghost use Rattle.syn_grammar.specs.Promises.{OrMemory};
 ghost use Rattle.syn_grammar.specs.Take.{sees};
 ghost use Rattle.syn_grammar.specs.Table as table;
 ghost use Rattle.syn_grammar.specs.Tokens as grammar;
@@ -9,7 +8,6 @@ ghost use Rattle.syn_grammar.specs.Tokens.{ahead, ◌and_also◌, Str, Before_co
 ghost use Rattle.syn_grammar.specs.Words.{w_union, w_auto};
 ghost use Rattle.syn_grammar.specs.ItemPlan as plan;
 ghost use Rattle.syn_parse.specs.Form.{by};
-ghost use Rattle.syn_parse.specs.Refusals.{IsSyntax};
 ghost use Rattle.syn_recognize.specs.ItemLooks as items;
 ghost use Rattle.syn_recognize.specs.Strings.{is_string};
 
@@ -19,29 +17,29 @@ use crate::looks::{
 };
 use syn_parse::buffer::ParseBuffer;
 use syn_parse::read::Peek;
-use syn_parse::read::refusal::{Parsed, Refusal};
 use syn_tokens::ident::Ident;
 use syn_tokens::lifetime::Lifetime;
-use syn_tokens::literal::{LitKind, Literal};
+use syn_tokens::literal::LitKind;
+use syn_tokens::stream::cursor::TokenTreeRef;
 use syn_tokens::token::{
-    And, As, Async, Auto, Brace, Colon, Const, Default, Enum, Extern, Fn, Gt, Impl, In, Lt, Macro,
-    Mod, Move, Mut, Or, Paren, PathSep, Pound, Pub, SelfType, SelfValue, Static, Struct, Trait,
-    Try, Type, Union, Unsafe, Use, kind,
+    And, As, Async, Auto, Brace, Const, Default, Enum, Extern, Fn, Gt, Impl, In, Lt, Macro, Mod,
+    Move, Mut, Or, Paren, PathSep, Pound, Pub, SelfType, SelfValue, Static, Struct, Trait, Try,
+    Type, Union, Unsafe, Use, kind,
 };
 
-/// Whether an item is next in a block, after its attributes. Refused only where memory is.
+/// Whether an item is next in a block, after its attributes.
 #[tactic(auto, using(crate::proofs::ItemLooks::item_seen))]
-pub fn at_item(input: &ParseBuffer<'_>) -> Parsed<bool>
-    ensures { OrMemory IsSyntax result (λ answer. answer ≡ sees table.at_item input.now) }
+pub fn at_item(input: &ParseBuffer<'_>) -> bool
+    ensures { result ≡ sees table.at_item input.now }
 {
     if at_item_word(input) {
-        return Ok(true);
+        return true;
     }
     if at_marked_word(input) {
-        return Ok(true);
+        return true;
     }
     if at_crate_item(input) {
-        return Ok(true);
+        return true;
     }
     at_named_macro(input)
 }
@@ -212,13 +210,13 @@ pub fn at_macro_name(input: &ParseBuffer<'_>) -> bool
     input.peek::<Ident>() || input.peek::<Try>()
 }
 
-/// Whether a macro with a name is next. Refused only where memory is.
-fn at_named_macro(input: &ParseBuffer<'_>) -> Parsed<bool>
-    ensures { OrMemory IsSyntax result (λ answer. answer ≡ sees items.at_named_macro input.now) }
+/// Whether a macro with a name is next.
+fn at_named_macro(input: &ParseBuffer<'_>) -> bool
+    ensures { result ≡ sees items.at_named_macro input.now }
 {
-    match after_path(input)? {
-        Some(bang) => Ok(bang.peek2::<MacroName>()),
-        None => Ok(false),
+    match after_path(input) {
+        Some(bang) => bang.peek2::<MacroName>(),
+        None => false,
     }
 }
 
@@ -340,23 +338,25 @@ pub fn at_no_macro_item(input: &ParseBuffer<'_>) -> bool
     input.peek::<SelfType>() || (input.peek::<Default>() && input.peek2::<PathSep>())
 }
 
-/// Whether a string is next. Refused only where memory is.
-#[tactic(auto, using(crate::proofs::Strings::string_seen, crate::proofs::Strings::no_string_seen))]
-pub fn at_str(input: &ParseBuffer<'_>) -> Parsed<bool>
-    ensures { OrMemory IsSyntax result (λ answer. answer ≡ sees (grammar.at_literal Str) input.now) }
+/// Whether a string is next.
+#[tactic(auto, using(crate::proofs::Strings::string_next, crate::proofs::Strings::string_not_at_end, crate::proofs::Strings::string_not_at_ident, crate::proofs::Strings::string_not_at_punct, crate::proofs::Strings::string_not_at_group))]
+pub fn at_str(input: &ParseBuffer<'_>) -> bool
+    ensures { result ≡ sees (grammar.at_literal Str) input.now }
 {
-    match input.fork().read::<Literal>() {
-        Ok(literal) => Ok(is_string(&literal)),
-        Err(Refusal::Memory(at)) => Err(Refusal::Memory(at)),
-        Err(Refusal::Syntax { .. }) => Ok(false),
+    match input.cursor().split() {
+        Some((TokenTreeRef::Literal(literal), _)) => is_string(literal.kind()),
+        Some((TokenTreeRef::Ident(_), _)) => false,
+        Some((TokenTreeRef::Punct(_), _)) => false,
+        Some((TokenTreeRef::Group(_), _)) => false,
+        None => false,
     }
 }
 
-/// Whether a literal is a string.
-pub(crate) fn is_string(literal: &Literal) -> bool
-    ensures { result ≡ is_string literal.now.kind }
+/// Whether a literal of this kind is a string.
+pub(crate) fn is_string(kind: LitKind) -> bool
+    ensures { result ≡ is_string kind }
 {
-    match literal.kind() {
+    match kind {
         LitKind::Str => true,
         LitKind::ByteStr => false,
         LitKind::CStr => false,
@@ -375,17 +375,16 @@ pub fn is_before_colons(input: &ParseBuffer<'_>) -> bool
     at_path_word(input) && input.peek2::<PathSep>()
 }
 
-/// Whether the path of a macro is next, or its rest after a `:`. Refused only where memory is.
-pub fn is_before_macro(input: &ParseBuffer<'_>) -> Parsed<bool>
-    ensures { OrMemory IsSyntax result (λ answer. answer ≡ sees (ahead Before_macro) input.now) }
+/// Whether the path of a macro is next, or its rest after a `:`.
+pub fn is_before_macro(input: &ParseBuffer<'_>) -> bool
+    ensures { result ≡ sees (ahead Before_macro) input.now }
 {
     if !at_lone_colon(input) {
         return at_macro(input);
     }
-    let mut following = input.fork();
-    let _colon: Colon = following.read()?;
+    let following = input.past();
     if !at_path_word(&following) {
-        return Ok(false);
+        return false;
     }
     at_macro(&following)
 }

@@ -66,36 +66,36 @@ pub(crate) fn head_height_of(rule: Rule) -> Option<usize>
 }
 
 /// The form that this level reads after an operand.
-#[tactic(auto, unfolding(crate::specs::Names::rule_of, crate::specs::Ladder::level_form))]
-pub(crate) fn following(level: usize) -> Option<&'static Form>
-    ensures { MatchOption result (Unit {0}) (λ form. parse_form (grammar_of form.now) ≡ parse_form (level_form level)) }
+#[tactic(auto, using(crate::proofs::Ladder::level_past), unfolding(crate::specs::Names::rule_of, crate::specs::Ladder::level_form))]
+pub(crate) fn following(level: usize) -> &'static Form
+    ensures { parse_form (grammar_of result.now) ≡ parse_form (level_form level) }
 {
     match level {
-        0 => Some(form_of(Rule::CASTS)),
-        1 => Some(form_of(Rule::PRODUCTS)),
-        2 => Some(form_of(Rule::SUMS)),
-        3 => Some(form_of(Rule::SHIFTS)),
-        4 => Some(form_of(Rule::BIT_ANDS)),
-        5 => Some(form_of(Rule::BIT_XORS)),
-        6 => Some(form_of(Rule::BIT_ORS)),
-        7 => Some(form_of(Rule::COMPARED)),
-        8 => Some(form_of(Rule::CONJUNCTIONS)),
-        9 => Some(form_of(Rule::DISJUNCTIONS)),
-        10 => Some(form_of(Rule::ASSIGNED)),
-        11 => Some(&FINISHED),
-        12 => Some(form_of(Rule::CASTS)),
-        13 => Some(form_of(Rule::PRODUCTS_HEAD)),
-        14 => Some(form_of(Rule::SUMS_HEAD)),
-        15 => Some(form_of(Rule::SHIFTS_HEAD)),
-        16 => Some(form_of(Rule::BIT_ANDS_HEAD)),
-        17 => Some(form_of(Rule::BIT_XORS_HEAD)),
-        18 => Some(form_of(Rule::BIT_ORS_HEAD)),
-        19 => Some(form_of(Rule::COMPARED_HEAD)),
-        20 => Some(form_of(Rule::CONJUNCTIONS_HEAD)),
-        21 => Some(form_of(Rule::DISJUNCTIONS_HEAD)),
-        22 => Some(form_of(Rule::ASSIGNED_HEAD)),
-        23 => Some(&FINISHED),
-        _ => None,
+        0 => form_of(Rule::CASTS),
+        1 => form_of(Rule::PRODUCTS),
+        2 => form_of(Rule::SUMS),
+        3 => form_of(Rule::SHIFTS),
+        4 => form_of(Rule::BIT_ANDS),
+        5 => form_of(Rule::BIT_XORS),
+        6 => form_of(Rule::BIT_ORS),
+        7 => form_of(Rule::COMPARED),
+        8 => form_of(Rule::CONJUNCTIONS),
+        9 => form_of(Rule::DISJUNCTIONS),
+        10 => form_of(Rule::ASSIGNED),
+        11 => &FINISHED,
+        12 => form_of(Rule::CASTS),
+        13 => form_of(Rule::PRODUCTS_HEAD),
+        14 => form_of(Rule::SUMS_HEAD),
+        15 => form_of(Rule::SHIFTS_HEAD),
+        16 => form_of(Rule::BIT_ANDS_HEAD),
+        17 => form_of(Rule::BIT_XORS_HEAD),
+        18 => form_of(Rule::BIT_ORS_HEAD),
+        19 => form_of(Rule::COMPARED_HEAD),
+        20 => form_of(Rule::CONJUNCTIONS_HEAD),
+        21 => form_of(Rule::DISJUNCTIONS_HEAD),
+        22 => form_of(Rule::ASSIGNED_HEAD),
+        23 => &FINISHED,
+        _ => &FINISHED,
     }
 }
 

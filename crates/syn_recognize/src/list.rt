@@ -2,15 +2,12 @@
 ghost use Rattle.std.specs.Prelude.{◌≡◌};
 ghost use Rattle.syn_grammar.specs.Run.{parse_rule};
 ghost use Rattle.syn_grammar.specs.Rules.{attributes};
-ghost use Rattle.syn_grammar.specs.Promises.{OrMemory};
-ghost use Rattle.syn_parse.specs.Refusals.{IsSyntax};
 ghost use Rattle.syn_recognize.specs.Forms.{grammar_of};
 ghost use Rattle.syn_recognize.specs.Ordered.{first_form, other_form, Settles, LeadsTo};
 
 use crate::form::Form;
 use crate::rules::{Part, Rule};
 use syn_parse::buffer::ParseBuffer;
-use syn_parse::read::refusal::{Parsed, Refusal};
 use syn_tokens::lifetime::Lifetime;
 use syn_tokens::token::{Pound, kind};
 
@@ -53,29 +50,27 @@ pub(crate) fn other_of(list: List) -> &'static Form
     }
 }
 
-/// Whether the next member is one that is printed first. Refused only where memory is.
+/// Whether the next member is one that is printed first.
 #[tactic(auto, using(crate::proofs::Ordered::arguments_known, crate::proofs::Ordered::parameters_known))]
-pub(crate) fn at_first(list: List, input: &ParseBuffer<'_>) -> Parsed<bool>
-    ensures { OrMemory IsSyntax result (λ answer. Settles list input.now answer) }
+pub(crate) fn at_first(list: List, input: &ParseBuffer<'_>) -> bool
+    ensures { Settles list input.now result }
 {
     match list {
-        List::Arguments => Ok(input.peek::<Lifetime>()),
+        List::Arguments => input.peek::<Lifetime>(),
         List::Parameters => at_lifetime_parameter(input),
     }
 }
 
 /// Whether a lifetime follows the attributes that are next.
-fn at_lifetime_parameter(input: &ParseBuffer<'_>) -> Parsed<bool>
-    ensures { OrMemory IsSyntax result (λ answer. LeadsTo (parse_rule attributes input.now) answer) }
+fn at_lifetime_parameter(input: &ParseBuffer<'_>) -> bool
+    ensures { LeadsTo (parse_rule attributes input.now) result }
 {
     let mut ahead = input.fork();
     'attributes: while ahead.peek::<Pound>() {
-        let Ok(_pound) = ahead.read::<Pound>() else {
-            return Err(Refusal::Memory(None));
-        };
+        ahead = ahead.past();
         let Ok((_brackets, _content)) = ahead.read_group::<kind::Bracket>() else {
-            return Ok(false);
+            return false;
         };
     }
-    Ok(ahead.peek::<Lifetime>())
+    ahead.peek::<Lifetime>()
 }

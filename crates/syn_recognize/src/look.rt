@@ -1,13 +1,11 @@
 //! Lookaheads as data.
 ghost use Rattle.std.specs.Prelude.{◌≡◌};
-ghost use Rattle.syn_grammar.specs.Promises.{OrMemory};
 ghost use Rattle.syn_grammar.specs.Tokens as grammar;
 ghost use Rattle.syn_grammar.specs.Tokens.{one_of_texts};
 ghost use Rattle.syn_grammar.specs.Words.{keywords};
 ghost use Rattle.syn_grammar.specs.Take.{sees};
 ghost use Rattle.syn_grammar.specs.Table as table;
 ghost use Rattle.syn_tokens.specs.Delimiters.{delimiter_of};
-ghost use Rattle.syn_parse.specs.Refusals.{IsSyntax};
 ghost use Rattle.syn_parse.specs.Firsts.{Begins};
 ghost use Rattle.syn_recognize.specs.Names.{look_of, mark_text, word_text};
 ghost use Rattle.syn_recognize.specs.May as may;
@@ -19,7 +17,6 @@ use crate::words::{Mark, Word, at_mark, at_word, first_of, is_known, is_one};
 use crate::{item_looks as items, looks};
 use syn_parse::buffer::ParseBuffer;
 use syn_parse::buffer::first::First;
-use syn_parse::read::refusal::Parsed;
 use syn_tokens::delimiter::Delimiter;
 use syn_tokens::ident::Ident;
 use syn_tokens::literal::Literal;
@@ -84,53 +81,53 @@ fn at_group(delimiter: Delimiter, input: &ParseBuffer<'_>) -> bool
     }
 }
 
-/// Whether the lookahead holds. Refused only where memory is.
+/// Whether the lookahead holds.
 #[tactic(auto, using(syn_grammar::proofs::Looks::sees_or, syn_grammar::proofs::Looks::sees_but))]
-pub(crate) fn holds(look: &Look, input: &ParseBuffer<'_>) -> Parsed<bool>
-    ensures { OrMemory IsSyntax result (λ answer. answer ≡ sees (look_of look.now) input.now) }
+pub(crate) fn holds(look: &Look, input: &ParseBuffer<'_>) -> bool
+    ensures { result ≡ sees (look_of look.now) input.now }
 {
     match look {
-        Look::Ended => Ok(input.is_empty()),
-        Look::Name => Ok(input.peek::<Ident>()),
-        Look::Word(word) => Ok(at_word(*word, input)),
-        Look::Mark(mark) => Ok(at_mark(*mark, input)),
-        Look::Group(delimiter) => Ok(at_group(*delimiter, input)),
-        Look::Or(one, other) => Ok(holds(one, input)? || holds(other, input)?),
-        Look::But(one, other) => Ok(holds(one, input)? && !holds(other, input)?),
+        Look::Ended => input.is_empty(),
+        Look::Name => input.peek::<Ident>(),
+        Look::Word(word) => at_word(*word, input),
+        Look::Mark(mark) => at_mark(*mark, input),
+        Look::Group(delimiter) => at_group(*delimiter, input),
+        Look::Or(one, other) => holds(one, input) || holds(other, input),
+        Look::But(one, other) => holds(one, input) && !holds(other, input),
         Look::Integer => looks::at_integer(input),
-        Look::EmptyGroup => Ok(looks::at_empty_group(input)),
-        Look::AnyLiteral => Ok(input.peek::<Literal>()),
-        Look::Lifetime => Ok(input.peek::<lifetime::Lifetime>()),
-        Look::InnerAttribute => Ok(looks::at_inner_attribute(input)),
-        Look::Arguments => Ok(looks::at_arguments(input)),
-        Look::Association => Ok(looks::at_association(input)),
-        Look::Turbofish => Ok(looks::at_turbofish(input)),
-        Look::PathWord => Ok(looks::at_path_word(input)),
-        Look::PatternPath => Ok(looks::at_pattern_path(input)),
+        Look::EmptyGroup => looks::at_empty_group(input),
+        Look::AnyLiteral => input.peek::<Literal>(),
+        Look::Lifetime => input.peek::<lifetime::Lifetime>(),
+        Look::InnerAttribute => looks::at_inner_attribute(input),
+        Look::Arguments => looks::at_arguments(input),
+        Look::Association => looks::at_association(input),
+        Look::Turbofish => looks::at_turbofish(input),
+        Look::PathWord => looks::at_path_word(input),
+        Look::PatternPath => looks::at_pattern_path(input),
         Look::Macro => looks::at_macro(input),
         Look::BraceMacro => looks::at_brace_macro(input),
-        Look::LoneCrate => Ok(looks::at_lone_crate(input)),
-        Look::CrateMacro => Ok(looks::at_crate_macro(input)),
-        Look::Bang => Ok(looks::at_bang(input)),
-        Look::PostfixMark => Ok(at_postfix_mark(input)),
-        Look::BlockLike => Ok(at_block_like(input)),
-        Look::WholeExpression => Ok(at_whole_expression(input)),
-        Look::Unfinished => Ok(at_unfinished(input)),
-        Look::Restriction => Ok(looks::at_restriction(input)),
-        Look::NamelessFields => Ok(looks::at_nameless_fields(input)),
-        Look::ParameterEnd => Ok(at_parameter_end(input)),
-        Look::PredicateEnd => Ok(at_predicate_end(input)),
+        Look::LoneCrate => looks::at_lone_crate(input),
+        Look::CrateMacro => looks::at_crate_macro(input),
+        Look::Bang => looks::at_bang(input),
+        Look::PostfixMark => at_postfix_mark(input),
+        Look::BlockLike => at_block_like(input),
+        Look::WholeExpression => at_whole_expression(input),
+        Look::Unfinished => at_unfinished(input),
+        Look::Restriction => looks::at_restriction(input),
+        Look::NamelessFields => looks::at_nameless_fields(input),
+        Look::ParameterEnd => at_parameter_end(input),
+        Look::PredicateEnd => at_predicate_end(input),
         Look::Item => items::at_item(input),
-        Look::Receiver => Ok(items::at_receiver(input)),
-        Look::Generics => Ok(items::at_generics(input)),
-        Look::NoMacroItem => Ok(items::at_no_macro_item(input)),
+        Look::Receiver => items::at_receiver(input),
+        Look::Generics => items::at_generics(input),
+        Look::NoMacroItem => items::at_no_macro_item(input),
         Look::StrLiteral => items::at_str(input),
-        Look::BeforeColons => Ok(items::is_before_colons(input)),
+        Look::BeforeColons => items::is_before_colons(input),
         Look::BeforeMacro => items::is_before_macro(input),
-        Look::MarkedUnion => Ok(items::at_union(input)),
-        Look::MarkedAuto => Ok(items::at_auto(input)),
-        Look::InRestriction => Ok(items::at_in_restriction(input)),
-        Look::LoneWord => Ok(items::at_lone_word(input)),
+        Look::MarkedUnion => items::at_union(input),
+        Look::MarkedAuto => items::at_auto(input),
+        Look::InRestriction => items::at_in_restriction(input),
+        Look::LoneWord => items::at_lone_word(input),
     }
 }
 
@@ -428,17 +425,17 @@ fn settles(look: &Look) -> bool
     }
 }
 
-/// Whether the lookahead holds, where `next` is the next token. Refused only where memory is.
+/// Whether the lookahead holds, where `next` is the next token.
 #[tactic(auto, using(crate::proofs::May::look_not, crate::proofs::May::look_sure))]
-pub(crate) fn holds_next(look: &Look, next: First, input: &ParseBuffer<'_>) -> Parsed<bool>
+pub(crate) fn holds_next(look: &Look, next: First, input: &ParseBuffer<'_>) -> bool
     requires { Begins next input.now }
-    ensures { OrMemory IsSyntax result (λ answer. answer ≡ sees (look_of look.now) input.now) }
+    ensures { result ≡ sees (look_of look.now) input.now }
 {
     if !may_hold(look, next) {
-        return Ok(false);
+        return false;
     }
     if settles(look) {
-        return Ok(true);
+        return true;
     }
     holds(look, input)
 }

@@ -1,22 +1,20 @@
 //! Lookaheads that are not composed of others.
 ghost use Rattle.std.specs.Prelude.{◌≡◌, MatchOption, true, false, codes};
-ghost use Rattle.syn_grammar.specs.Promises.{OrMemory};
 ghost use Rattle.syn_grammar.specs.Take.{sees};
 ghost use Rattle.syn_grammar.specs.Table as table;
 ghost use Rattle.syn_grammar.specs.Tokens as grammar;
 ghost use Rattle.syn_grammar.specs.Tokens.{Int};
 ghost use Rattle.syn_parse.specs.Form.{by};
 ghost use Rattle.syn_parse.specs.Peeks.{past};
-ghost use Rattle.syn_parse.specs.Refusals.{IsSyntax};
 ghost use Rattle.syn_recognize.specs.FieldNumbers.{is_integer};
-ghost use Rattle.syn_recognize.specs.ItemLooks.{at_named_macro};
+ghost use Rattle.syn_recognize.specs.ItemLooks.{at_named_macro, brace_macro_from, macro_from, named_macro_from};
 ghost use Rattle.syn_recognize.specs.Restricted.{lone_word};
 
 use syn_parse::buffer::ParseBuffer;
-use syn_parse::read::refusal::{Parsed, Refusal};
 use syn_parse::read::{End, Peek};
 use syn_tokens::ident::Ident;
-use syn_tokens::literal::{LitKind, Literal};
+use syn_tokens::literal::LitKind;
+use syn_tokens::stream::cursor::TokenTreeRef;
 use syn_tokens::token::{
     Brace, Crate, Eq, In, Le, Lt, Ne, Not, Paren, PathSep, Pound, SelfType, SelfValue, Struct,
     Super, Union, kind,
@@ -54,23 +52,25 @@ pub fn at_association(input: &ParseBuffer<'_>) -> bool
     input.peek::<Ident>() && input.peek2::<Eq>()
 }
 
-/// Whether an integer is next. Refused only where memory is.
-#[tactic(auto, using(crate::proofs::Integers::integer_seen, crate::proofs::Integers::no_literal_seen))]
-pub fn at_integer(input: &ParseBuffer<'_>) -> Parsed<bool>
-    ensures { OrMemory IsSyntax result (λ answer. answer ≡ sees (grammar.at_literal Int) input.now) }
+/// Whether an integer is next.
+#[tactic(auto, using(crate::proofs::Integers::integer_seen, crate::proofs::Integers::integer_not_at_end, crate::proofs::Integers::integer_not_at_ident, crate::proofs::Integers::integer_not_at_punct, crate::proofs::Integers::integer_not_at_group))]
+pub fn at_integer(input: &ParseBuffer<'_>) -> bool
+    ensures { result ≡ sees (grammar.at_literal Int) input.now }
 {
-    match input.fork().read::<Literal>() {
-        Ok(literal) => Ok(is_integer(&literal)),
-        Err(Refusal::Memory(at)) => Err(Refusal::Memory(at)),
-        Err(Refusal::Syntax { .. }) => Ok(false),
+    match input.cursor().split() {
+        Some((TokenTreeRef::Literal(literal), _)) => is_integer(literal.kind()),
+        Some((TokenTreeRef::Ident(_), _)) => false,
+        Some((TokenTreeRef::Punct(_), _)) => false,
+        Some((TokenTreeRef::Group(_), _)) => false,
+        None => false,
     }
 }
 
-/// Whether a literal is an integer.
-fn is_integer(literal: &Literal) -> bool
-    ensures { result ≡ is_integer literal.now.kind }
+/// Whether a literal of this kind is an integer.
+fn is_integer(kind: LitKind) -> bool
+    ensures { result ≡ is_integer kind }
 {
-    match literal.kind() {
+    match kind {
         LitKind::Str => false,
         LitKind::ByteStr => false,
         LitKind::CStr => false,
@@ -187,23 +187,23 @@ pub fn at_pattern_path(input: &ParseBuffer<'_>) -> bool
         || (input.peek::<Ident>() && (input.peek2::<PathSep>() || input.peek2::<Paren>()))
 }
 
-/// Whether a macro is next: a path in module style, and a `!` that isn't `!=`. Refused only where memory is.
-pub fn at_macro(input: &ParseBuffer<'_>) -> Parsed<bool>
-    ensures { OrMemory IsSyntax result (λ answer. answer ≡ sees table.at_macro input.now) }
+/// Whether a macro is next: a path in module style, and a `!` that isn't `!=`.
+pub fn at_macro(input: &ParseBuffer<'_>) -> bool
+    ensures { result ≡ sees table.at_macro input.now }
 {
-    match after_path(input)? {
-        Some(_) => Ok(true),
-        None => Ok(false),
+    match after_path(input) {
+        Some(_) => true,
+        None => false,
     }
 }
 
-/// Whether a macro with a group in braces is next. Refused only where memory is.
-pub fn at_brace_macro(input: &ParseBuffer<'_>) -> Parsed<bool>
-    ensures { OrMemory IsSyntax result (λ answer. answer ≡ sees table.at_brace_macro input.now) }
+/// Whether a macro with a group in braces is next.
+pub fn at_brace_macro(input: &ParseBuffer<'_>) -> bool
+    ensures { result ≡ sees table.at_brace_macro input.now }
 {
-    match after_path(input)? {
-        Some(bang) => Ok(bang.peek2::<Brace>()),
-        None => Ok(false),
+    match after_path(input) {
+        Some(bang) => bang.peek2::<Brace>(),
+        None => false,
     }
 }
 
@@ -216,22 +216,32 @@ pub fn at_crate_macro(input: &ParseBuffer<'_>) -> bool
 }
 
 /// If a macro is next, the tokens after its path, from its `!` on.
-pub(crate) fn after_path<'a>(input: &ParseBuffer<'a>) -> Parsed<Option<ParseBuffer<'a>>>
-    ensures { OrMemory IsSyntax result (λ found. MatchOption found
+pub(crate) fn after_path<'a>(input: &ParseBuffer<'a>) -> Option<ParseBuffer<'a>>
+    ensures { MatchOption result
         ((sees table.at_macro input.now ≡ false) × (sees table.at_brace_macro input.now ≡ false) × (sees at_named_macro input.now ≡ false))
-        (λ bang. (sees table.at_macro input.now ≡ true) × (sees table.at_brace_macro input.now ≡ sees table.at_brace (past bang)) × (sees at_named_macro input.now ≡ sees table.at_macro_name (past bang)))) }
+        (λ bang. (sees table.at_macro input.now ≡ true) × (sees table.at_brace_macro input.now ≡ sees table.at_brace (past bang)) × (sees at_named_macro input.now ≡ sees table.at_macro_name (past bang))) }
 {
-    let mut ahead = input.fork();
-    let _leading: Option<PathSep> = ahead.read()?;
+    let mut ahead = after_colons(input);
     'words: while at_path_word(&ahead) {
-        let _word = ahead.read_path_word()?;
+        ahead = ahead.past();
         if at_bang(&ahead) {
-            return Ok(Some(ahead));
+            return Some(ahead);
         }
         if !ahead.peek::<PathSep>() {
-            return Ok(None);
+            return None;
         }
-        let _colons: PathSep = ahead.read()?;
+        ahead = ahead.past().past();
     }
-    Ok(None)
+    None
+}
+
+/// The tokens after `::`, if it is next; else all tokens.
+fn after_colons<'a>(input: &ParseBuffer<'a>) -> ParseBuffer<'a>
+    ensures { (sees table.at_macro input.now ≡ macro_from result) × (sees table.at_brace_macro input.now ≡ brace_macro_from result) × (sees at_named_macro input.now ≡ named_macro_from result) }
+{
+    if input.peek::<PathSep>() {
+        input.past().past()
+    } else {
+        input.fork()
+    }
 }

@@ -1,35 +1,35 @@
 //! Error messages of forms that aren't read: the expected form, the Rust form found that is left out, or the end of the input.
-ghost use Rattle.syn_parse.specs.Refusals.{IsSyntax};
+ghost use Rattle.syn_recognize.specs.Stops.{IsFault};
 
 use crate::form::Form;
 use crate::left_out::Place;
+use crate::stop::{Stop, unexpected};
 use crate::token::Token;
 use crate::words::{Mark, mark_at_end, word_at_end};
 use syn_parse::buffer::ParseBuffer;
-use syn_parse::read::refusal::Refusal;
 use syn_tokens::delimiter::Delimiter;
 
-/// The refusal of the form that is next, from the refusal of what reads it. At the end of the input, and at a Rust form that is left out,
-/// the message says so; otherwise the refusal is unchanged.
-pub(crate) fn reported(refusal: Refusal, form: &Form, input: &ParseBuffer<'_>) -> Refusal
-    ensures { IsSyntax result → IsSyntax refusal }
+/// Why the form that is next isn't read, from why what reads it stops. At the end of the input, and at a Rust form that is left out, the
+/// message says so; otherwise it is unchanged.
+pub(crate) fn reported(stop: Stop, form: &Form, input: &ParseBuffer<'_>) -> Stop
+    ensures { IsFault result → IsFault stop }
 {
-    match refusal {
-        Refusal::Memory(at) => Refusal::Memory(at),
-        Refusal::Syntax { span, text } => Refusal::Syntax {
+    match stop {
+        Stop::Memory(error) => Stop::Memory(error),
+        Stop::Syntax { span, text } => Stop::Syntax {
             span,
             text: text_of(text, form, input),
         },
     }
 }
 
-/// The refusal of tokens left over in a group.
-pub(crate) fn left_over(input: &ParseBuffer<'_>) -> Refusal
-    ensures { IsSyntax result }
+/// Tokens are left over in a group.
+pub(crate) fn left_over(input: &ParseBuffer<'_>) -> Stop
+    ensures { IsFault result }
 {
     match Place::Following.left_out(input) {
-        Some(text) => input.refusal(text),
-        None => input.refusal("unexpected token"),
+        Some(text) => unexpected(input, text),
+        None => unexpected(input, "unexpected token"),
     }
 }
 

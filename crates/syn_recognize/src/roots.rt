@@ -2,22 +2,22 @@
 ghost use Rattle.std.specs.Prelude.{◌≡◌, false};
 ghost use Rattle.syn_grammar.specs.Promises.{OrMemory};
 ghost use Rattle.syn_grammar.specs.Take.{before};
-ghost use Rattle.syn_parse.specs.Refusals.{IsSyntax};
 ghost use Rattle.syn_recognize.specs.RootMarks.{colon_entry, begins_entry};
 ghost use Rattle.syn_grammar.specs.DecidedByTokens.{roots};
+ghost use Rattle.syn_recognize.specs.Stops.{IsFault};
 
+use crate::stop::{Stepped, Stop};
 use syn_parse::buffer::ParseBuffer;
-use syn_parse::read::refusal::{Parsed, Refusal};
 use syn_tokens::stream::TokenStream;
 use syn_tokens::stream::entry::{Entry, Token};
 
-/// Whether `::` is before one of the trees in braces from `begin` on. Refused only where memory is.
-pub(crate) fn has_root_mark<'a>(begin: &ParseBuffer<'a>, input: &ParseBuffer<'a>) -> Parsed<bool>
-    ensures { OrMemory IsSyntax result (λ answer. answer ≡ roots false (before begin.now input.now)) }
+/// Whether `::` is before one of the trees in braces from `begin` on. Stops only where memory is refused.
+pub(crate) fn has_root_mark<'a>(begin: &ParseBuffer<'a>, input: &ParseBuffer<'a>) -> Stepped<bool>
+    ensures { OrMemory IsFault result (λ answer. answer ≡ roots false (before begin.now input.now)) }
 {
     match begin.between(input) {
         Ok(tokens) => Ok(has_root(&tokens)),
-        Err(_memory) => Err(Refusal::Memory(None)),
+        Err(error) => Err(Stop::Memory(error.into_alloc_error())),
     }
 }
 

@@ -1,12 +1,10 @@
 //! Deferred steps.
+use crate::draft::Draft;
 use crate::form::Form;
-use crate::guess::Guess;
-use crate::late::Guesses;
 use crate::list::List;
 use crate::plan::Plan;
 use crate::writer::Writer;
 use syn_parse::buffer::ParseBuffer;
-use syn_tokens::delimiter::Delimiter;
 use syn_tokens::span::Span;
 
 /// A deferred step.
@@ -14,21 +12,18 @@ use syn_tokens::span::Span;
 pub enum Step<'a> {
     /// Reads a form.
     Form(&'static Form),
-    /// Requires that nothing is left of a group with these delimiters and this span of the closing one, and continues after it.
-    Close(Delimiter, Span, ParseBuffer<'a>),
-    /// Reads a list up to `>`; after some member that isn't printed first, the list of that number.
-    Row(List, Option<usize>),
+    /// Requires that nothing is left of a group with this span of the closing delimiter, and continues after it.
+    Close(Span, ParseBuffer<'a>),
+    /// Reads a list up to `>`, of which no other member than lifetimes was printed yet.
+    Row(List),
     /// Reads what follows a member of such a list.
-    RowRest(List, Option<usize>),
-    /// Reads the rest of such a list, whose late members, these, are written already.
-    Others(List, Guesses),
+    RowRest(List),
+    /// Reads the rest of a printed list: the members that are printed first are appended to the output that was set aside.
+    Others(List, Box<Writer>),
     /// Reads what follows another member there.
-    OthersRest(List, Guesses),
-    /// Notes what was written aside as a late member of the list of that number, returns to its beginning, and restores the output before
-    /// it.
-    Note(Box<Writer>, ParseBuffer<'a>, usize),
-    /// Requires that the tokens written aside are the next late member, and restores the output before it.
-    Skip(List, Box<Writer>, Guesses),
+    OthersRest(List, Box<Writer>),
+    /// Reads what follows a member that is printed first there; the other members are what was set aside.
+    LateRest(List, Box<Writer>),
     /// Restores the output that was set aside.
     Forget(Box<Writer>),
     /// The same, and copies the tokens read since then unchanged.
@@ -38,7 +33,7 @@ pub enum Step<'a> {
     /// Reads the first form if the last token tree since then is a group in braces, else the second.
     ByBraces(&'static Form, &'static Form, ParseBuffer<'a>),
     /// Follows a plan.
-    Plan(&'static Plan, Guess),
+    Plan(&'static Plan, Draft<'a>),
     /// Continues with the first plan if one of the trees of a use read since then has `::` before it, else with the second.
-    Rooted(&'static Plan, &'static Plan, Guess, ParseBuffer<'a>),
+    Rooted(&'static Plan, &'static Plan, Draft<'a>, ParseBuffer<'a>),
 }

@@ -8,7 +8,6 @@ ghost use Rattle.syn_grammar.specs.Rules.{whole_expression};
 ghost use Rattle.syn_grammar.specs.Take.{take_mark};
 ghost use Rattle.syn_tokens.specs.Delimiters.{delimiter_of};
 ghost use Rattle.syn_tokens.specs.Spans.{at};
-ghost use Rattle.syn_parse.specs.Refusals.{IsSyntax};
 ghost use Rattle.syn_recognize.specs.Forms.{grammar_of, kind_of};
 ghost use Rattle.syn_recognize.specs.Parts.{part_form};
 ghost use Rattle.syn_recognize.specs.Names.{look_of, mark_text, rule_of};
@@ -18,7 +17,8 @@ ghost use Rattle.syn_recognize.specs.Written.{adds};
 ghost use Rattle.syn_parse.specs.Firsts.{Begins};
 ghost use Rattle.syn_recognize.specs.Ladder.{climb};
 ghost use Rattle.syn_recognize.specs.declared.step.Step.TheVariants.{Levels};
-ghost use Rattle.syn_recognize.specs.Steps.{Steps, Guessing, Proceeds, Leading, Runs, after};
+ghost use Rattle.syn_recognize.specs.Steps.{Steps, Proceeds, Leading, Runs, after};
+ghost use Rattle.syn_recognize.specs.Stops.{IsFault};
 
 use crate::aside::{capture, forget, read_captured, read_hidden};
 use crate::braces::has_trailing_brace;
@@ -31,70 +31,54 @@ use crate::operands::{head_operand, opened, operand};
 use crate::planned::{choose_by_roots, read_plan, read_planned};
 use crate::refused::{left_over, reported};
 use crate::rows::{
-    note, read_ordered, read_others, read_others_rest, read_row, read_row_rest, skip_late,
+    read_late_rest, read_ordered, read_others, read_others_rest, read_row, read_row_rest,
 };
 use crate::rules::{Part, Rule, form_of, form_of_part};
 use crate::step::Step;
+use crate::stop::{Stepped, Stop, stopped, unexpected};
 use crate::supplied::read_supplied;
-use crate::token::{copy, copy_token};
+use crate::token::{copy_lifetime, copy_token};
 use crate::words::{Mark, copy_mark};
 use crate::writer::Writer;
 use syn_parse::buffer::ParseBuffer;
 use syn_parse::buffer::first::First;
-use syn_parse::read::refusal::{Parsed, Refusal};
 use syn_tokens::delimiter::Delimiter;
-use syn_tokens::lifetime::Lifetime;
 use syn_tokens::span::Span;
 use syn_tokens::stream::TokenStream;
 use syn_tokens::token::{DelimiterKind, kind};
 
 static EMPTY: Form = Form::Empty;
 
+/// How many levels of forms are descended in one step; the deepest form that is read has far fewer.
+const MOST_LEVELS: u32 = 1 << 16;
+
 /// Does one step, and those after it up to the next token.
-#[tactic(auto, using(crate::proofs::Todo::guessing_leads))]
+#[tactic(auto, using(crate::proofs::Todo::steps_lead))]
 pub(crate) fn take<'a>(
     step: Step<'a>,
     steps: &mut Vec<Step<'a>>,
     out: &mut Writer,
     input: &mut ParseBuffer<'a>,
-) -> Parsed<()>
-    ensures { Leading IsSyntax steps.old.items (after step.entry (Reached out.old input.old)) result steps.new.items out.new input.new }
+) -> Stepped<()>
+    ensures { Leading IsFault steps.old.items (after step.entry (Reached out.old input.old)) result steps.new.items out.new input.new }
 {
     match step {
         Step::Form(form) => read_form(form, steps, out, input),
         Step::Levels(from, to) => read_levels(from, to, steps, out, input),
-        other => take_other(other, steps, out, input),
-    }
-}
-
-/// Does a step other than reading a form or levels.
-#[tactic(auto, using(crate::proofs::Todo::guessing))]
-fn take_other<'a>(
-    step: Step<'a>,
-    steps: &mut Vec<Step<'a>>,
-    out: &mut Writer,
-    input: &mut ParseBuffer<'a>,
-) -> Parsed<()>
-    ensures { Guessing IsSyntax steps.old.items (after step.entry (Reached out.old input.old)) result steps.new.items out.new input.new }
-{
-    match step {
-        Step::Form(_) => Err(Refusal::Memory(None)),
-        Step::Levels(_, _) => Err(Refusal::Memory(None)),
-        Step::Close(delimiter, closing, rest) => leave(delimiter, closing, &rest, out, input),
-        Step::Row(list, number) => read_row(list, number, steps, out, input),
-        Step::RowRest(list, number) => read_row_rest(list, number, steps, out, input),
-        Step::Others(list, late) => read_others(list, late, steps, out, input),
-        Step::OthersRest(list, late) => read_others_rest(list, late, steps, out, input),
-        Step::Note(before, begin, number) => note(before, &begin, number, out, input),
-        Step::Skip(list, before, late) => skip_late(list, before, late, steps, out, input),
+        Step::Close(closing, rest) => leave(closing, &rest, out, input),
+        Step::Row(list) => read_row(list, steps, out, input),
+        Step::RowRest(list) => read_row_rest(list, steps, out, input),
+        Step::Others(list, before) => read_others(list, before, steps, out, input),
+        Step::OthersRest(list, before) => read_others_rest(list, before, steps, out, input),
+        Step::LateRest(list, others) => read_late_rest(list, others, steps, out, input),
         Step::Forget(before) => forget(before, out, input),
         Step::Capture(before, begin) => capture(before, &begin, out, input),
         Step::ByBraces(one, other, begin) => {
             read_by_braces(one, other, &begin, steps, out, input)
         }
-        Step::Plan(plan, guess) => read_plan(plan, guess, steps, out, input),
-        Step::Rooted(one, other, guess, begin) => {
-            choose_by_roots(one, other, guess, &begin, steps, out, input)
+        Step::Plan(plan, draft) => read_plan(plan, draft, steps, out, input),
+        Step::Rooted(one, other, draft, begin) => {
+            choose_by_roots(one, other, draft, &begin, steps, out, input)
         }
     }
 }
@@ -106,8 +90,8 @@ fn read_levels<'a>(
     steps: &mut Vec<Step<'a>>,
     out: &mut Writer,
     input: &mut ParseBuffer<'a>,
-) -> Parsed<()>
-    ensures { Leading IsSyntax steps.old.items (climb (to - from) from out.old input.old) result steps.new.items out.new input.new }
+) -> Stepped<()>
+    ensures { Leading IsFault steps.old.items (climb (to - from) from out.old input.old) result steps.new.items out.new input.new }
 {
     let level = first_level(from, to, input.first());
     if level < to {
@@ -124,47 +108,45 @@ fn read_level<'a>(
     steps: &mut Vec<Step<'a>>,
     out: &mut Writer,
     input: &mut ParseBuffer<'a>,
-) -> Parsed<()>
+) -> Stepped<()>
     requires { level < to }
-    ensures { Leading IsSyntax steps.old.items (climb (to - level) level out.old input.old) result steps.new.items out.new input.new }
+    ensures { Leading IsFault steps.old.items (climb (to - level) level out.old input.old) result steps.new.items out.new input.new }
 {
-    let Some(form) = following(level) else {
-        return Err(Refusal::Memory(None));
-    };
     steps.push(Step::Levels(level + 1, to))?;
-    read_form(form, steps, out, input)
+    read_form(following(level), steps, out, input)
 }
 
 /// Reads a form after descending to the first part that reads something itself.
-#[tactic(auto, using(crate::proofs::Todo::goes_read, crate::proofs::Todo::guessing_leads))]
+#[tactic(auto, using(crate::proofs::Todo::goes_read, crate::proofs::Todo::steps_lead))]
 fn read_form<'a>(
     form: &'static Form,
     steps: &mut Vec<Step<'a>>,
     out: &mut Writer,
     input: &mut ParseBuffer<'a>,
-) -> Parsed<()>
-    ensures { Leading IsSyntax steps.old.items (copy_form (grammar_of form.now) out.old input.old) result steps.new.items out.new input.new }
+) -> Stepped<()>
+    ensures { Leading IsFault steps.old.items (copy_form (grammar_of form.now) out.old input.old) result steps.new.items out.new input.new }
 {
     let first = descend(form, steps, out, input)?;
-    match read_begun(first, steps, out, input) {
+    match read_leaf(first, steps, out, input) {
         Ok(()) => Ok(()),
-        Err(refusal) => Err(reported(refusal, first, input)),
+        Err(stop) => Err(reported(stop, first, input)),
     }
 }
 
-/// Descends to the first form that reads something itself, and defers what follows it. Refused only where memory is.
-#[tactic(auto, using(crate::proofs::Todo::goes_here))]
+/// Descends to the first form that reads something itself, and defers what follows it; after very many levels the form is deferred too.
+/// Stops only where memory is refused.
+#[tactic(auto, using(crate::proofs::Todo::goes_here, crate::proofs::Todo::goes_later))]
 fn descend<'a>(
     form: &'static Form,
     steps: &mut Vec<Step<'a>>,
     out: &Writer,
     input: &ParseBuffer<'a>,
-) -> Parsed<&'static Form>
-    ensures { OrMemory IsSyntax result (λ first. Proceeds steps.old.items (copy_form (grammar_of form.now) out.now input.now) steps.new.items (grammar_of first.now) out.now input.now) }
+) -> Stepped<&'static Form>
+    ensures { OrMemory IsFault result (λ first. Proceeds steps.old.items (copy_form (grammar_of form.now) out.now input.now) steps.new.items (grammar_of first.now) out.now input.now) }
 {
     let next = input.first();
     let mut form = form;
-    'down: for _level in 0..u64::MAX {
+    'down: for _level in 0..MOST_LEVELS {
         match below(form, next, steps, out, input)? {
             Some(first) => form = first,
             None => match resumed(form, next, steps, out, input)? {
@@ -173,7 +155,8 @@ fn descend<'a>(
             },
         }
     }
-    Err(Refusal::Memory(None))
+    steps.push(Step::Form(form))?;
+    Ok(&EMPTY)
 }
 
 /// After a form that reads nothing: the last deferred step, if it is a form.
@@ -184,9 +167,9 @@ fn resumed<'a>(
     steps: &mut Vec<Step<'a>>,
     out: &Writer,
     input: &ParseBuffer<'a>,
-) -> Parsed<Option<&'static Form>>
+) -> Stepped<Option<&'static Form>>
     requires { Begins next input.now }
-    ensures { OrMemory IsSyntax result (λ found. MatchOption found (steps.new.items ≡ steps.old.items) (λ first. Proceeds steps.old.items (copy_form (grammar_of form.now) out.now input.now) steps.new.items (grammar_of first.now) out.now input.now)) }
+    ensures { OrMemory IsFault result (λ found. MatchOption found (steps.new.items ≡ steps.old.items) (λ first. Proceeds steps.old.items (copy_form (grammar_of form.now) out.now input.now) steps.new.items (grammar_of first.now) out.now input.now)) }
 {
     match form {
         Form::Empty => next_form(next, steps, out, input),
@@ -202,9 +185,9 @@ fn next_form<'a>(
     steps: &mut Vec<Step<'a>>,
     out: &Writer,
     input: &ParseBuffer<'a>,
-) -> Parsed<Option<&'static Form>>
+) -> Stepped<Option<&'static Form>>
     requires { Begins next input.now }
-    ensures { OrMemory IsSyntax result (λ found. MatchOption found (steps.new.items ≡ steps.old.items) (λ first. Proceeds steps.old.items (Reached out.now input.now) steps.new.items (grammar_of first.now) out.now input.now)) }
+    ensures { OrMemory IsFault result (λ found. MatchOption found (steps.new.items ≡ steps.old.items) (λ first. Proceeds steps.old.items (Reached out.now input.now) steps.new.items (grammar_of first.now) out.now input.now)) }
 {
     let Some(step) = steps.pop() else {
         return Ok(None);
@@ -228,22 +211,19 @@ fn next_level<'a>(
     steps: &mut Vec<Step<'a>>,
     _out: &Writer,
     _input: &ParseBuffer<'a>,
-) -> Parsed<&'static Form>
+) -> Stepped<&'static Form>
     requires { Begins next _input.now }
-    ensures { OrMemory IsSyntax result (λ first. Proceeds (steps.old.items ++ Levels from to ∷ []) (Reached _out.now _input.now) steps.new.items (grammar_of first.now) _out.now _input.now) }
+    ensures { OrMemory IsFault result (λ first. Proceeds (steps.old.items ++ Levels from to ∷ []) (Reached _out.now _input.now) steps.new.items (grammar_of first.now) _out.now _input.now) }
 {
     let level = first_level(from, to, next);
     if to <= level {
         return Ok(&EMPTY);
     }
-    let Some(form) = following(level) else {
-        return Err(Refusal::Memory(None));
-    };
     steps.push(Step::Levels(level + 1, to))?;
-    Ok(form)
+    Ok(following(level))
 }
 
-/// The form with which this composed form begins; defers the rest. None where the form is not composed. Refused only where memory is.
+/// The form with which this composed form begins; defers the rest. None where the form is not composed. Stops only where memory is refused.
 #[tactic(auto, using(crate::proofs::Todo::goes_here, crate::proofs::Copied::shaped_is))]
 fn below<'a>(
     form: &'static Form,
@@ -251,13 +231,13 @@ fn below<'a>(
     steps: &mut Vec<Step<'a>>,
     out: &Writer,
     input: &ParseBuffer<'a>,
-) -> Parsed<Option<&'static Form>>
+) -> Stepped<Option<&'static Form>>
     requires { Begins next input.now }
-    ensures { OrMemory IsSyntax result (λ found. MatchOption found (steps.new.items ≡ steps.old.items) (λ first. Proceeds steps.old.items (copy_form (grammar_of form.now) out.now input.now) steps.new.items (grammar_of first.now) out.now input.now)) }
+    ensures { OrMemory IsFault result (λ found. MatchOption found (steps.new.items ≡ steps.old.items) (λ first. Proceeds steps.old.items (copy_form (grammar_of form.now) out.now input.now) steps.new.items (grammar_of first.now) out.now input.now)) }
 {
     match form {
         Form::Then(one, other) => Ok(Some(deferring(one, other, steps, out, input)?)),
-        Form::When(look, one, other) => Ok(Some(choose(look, one, other, next, out, input)?)),
+        Form::When(look, one, other) => Ok(Some(choose(look, one, other, next, out, input))),
         Form::Rule(rule) => Ok(Some(begin_rule(*rule, next, steps, out, input)?)),
         Form::Part(part) => Ok(Some(begin_part(*part, out, input))),
         Form::Only(rule) => Ok(Some(begin_only(*rule, out, input))),
@@ -274,8 +254,8 @@ fn deferring<'a>(
     steps: &mut Vec<Step<'a>>,
     out: &Writer,
     input: &ParseBuffer<'a>,
-) -> Parsed<&'static Form>
-    ensures { OrMemory IsSyntax result (λ first. Proceeds steps.old.items (copy_form (grammar_of one.now & grammar_of other.now) out.now input.now) steps.new.items (grammar_of first.now) out.now input.now) }
+) -> Stepped<&'static Form>
+    ensures { OrMemory IsFault result (λ first. Proceeds steps.old.items (copy_form (grammar_of one.now & grammar_of other.now) out.now input.now) steps.new.items (grammar_of first.now) out.now input.now) }
 {
     steps.push(Step::Form(other))?;
     Ok(one)
@@ -306,14 +286,14 @@ fn choose(
     next: First,
     out: &Writer,
     input: &ParseBuffer<'_>,
-) -> Parsed<&'static Form>
+) -> &'static Form
     requires { Begins next input.now }
-    ensures { OrMemory IsSyntax result (λ first. copy_form (when (look_of look.now) then (grammar_of one.now) else (grammar_of other.now)) out.now input.now ≡ copy_form (grammar_of first.now) out.now input.now) }
+    ensures { copy_form (when (look_of look.now) then (grammar_of one.now) else (grammar_of other.now)) out.now input.now ≡ copy_form (grammar_of result.now) out.now input.now }
 {
-    if holds_next(look, next, input)? {
-        Ok(one)
+    if holds_next(look, next, input) {
+        one
     } else {
-        Ok(other)
+        other
     }
 }
 
@@ -324,9 +304,9 @@ fn begin_rule<'a>(
     steps: &mut Vec<Step<'a>>,
     out: &Writer,
     input: &ParseBuffer<'a>,
-) -> Parsed<&'static Form>
+) -> Stepped<&'static Form>
     requires { Begins next input.now }
-    ensures { OrMemory IsSyntax result (λ first. Proceeds steps.old.items (copy_form (grammar.rule (rule_of rule)) out.now input.now) steps.new.items (grammar_of first.now) out.now input.now) }
+    ensures { OrMemory IsFault result (λ first. Proceeds steps.old.items (copy_form (grammar.rule (rule_of rule)) out.now input.now) steps.new.items (grammar_of first.now) out.now input.now) }
 {
     match height_of(rule) {
         Some(height) => {
@@ -345,9 +325,9 @@ fn begin_other<'a>(
     steps: &mut Vec<Step<'a>>,
     out: &Writer,
     input: &ParseBuffer<'a>,
-) -> Parsed<&'static Form>
+) -> Stepped<&'static Form>
     requires { Begins next input.now }
-    ensures { OrMemory IsSyntax result (λ first. Proceeds steps.old.items (copy_form (grammar.rule (rule_of rule)) out.now input.now) steps.new.items (grammar_of first.now) out.now input.now) }
+    ensures { OrMemory IsFault result (λ first. Proceeds steps.old.items (copy_form (grammar.rule (rule_of rule)) out.now input.now) steps.new.items (grammar_of first.now) out.now input.now) }
 {
     match head_height_of(rule) {
         Some(height) => {
@@ -358,41 +338,25 @@ fn begin_other<'a>(
     }
 }
 
-/// Begins a plan, or reads another form that isn't composed.
-#[tactic(auto, using(crate::proofs::Todo::guessing))]
-fn read_begun<'a>(
-    form: &'static Form,
-    steps: &mut Vec<Step<'a>>,
-    out: &mut Writer,
-    input: &mut ParseBuffer<'a>,
-) -> Parsed<()>
-    ensures { Guessing IsSyntax steps.old.items (copy_form (grammar_of form.now) out.old input.old) result steps.new.items out.new input.new }
-{
-    match form {
-        Form::Planned(planned) => read_planned(*planned, steps, out, input),
-        _ => read_leaf(form, steps, out, input),
-    }
-}
-
-/// Reads a form that isn't composed and isn't read by a plan.
+/// Reads a form that isn't composed; a composed one is deferred.
 #[tactic(auto, unfolding(crate::specs::Copies::copy_form))]
 fn read_leaf<'a>(
     form: &'static Form,
     steps: &mut Vec<Step<'a>>,
     out: &mut Writer,
     input: &mut ParseBuffer<'a>,
-) -> Parsed<()>
-    ensures { Steps IsSyntax steps.old.items (copy_form (grammar_of form.now) out.old input.old) result steps.new.items out.new input.new }
+) -> Stepped<()>
+    ensures { Steps IsFault steps.old.items (copy_form (grammar_of form.now) out.old input.old) result steps.new.items out.new input.new }
 {
     match form {
         Form::Empty => Ok(()),
-        Form::Never(fault) => Err(fault.refusal(input)),
+        Form::Never(fault) => Err(fault.stop(input)),
         Form::Token(token) => copy_token(*token, out, input),
         Form::TokenAt(token, _) => copy_token(*token, out, input),
         Form::Mark(mark) => copy_mark(*mark, out, input),
         Form::MarkAt(mark, _) => copy_mark(*mark, out, input),
         Form::MarkElse(mark, fault) => copy_mark_else(*mark, *fault, out, input),
-        Form::Lifetime => copy::<Lifetime>(out, input),
+        Form::Lifetime => copy_lifetime(out, input),
         Form::Inside(delimiter, content) => enter(*delimiter, content, steps, out, input),
         Form::Raw(delimiter) => copy_group(*delimiter, out, input),
         Form::RestAfter(mark) => copy_rest(*mark, out, input),
@@ -403,15 +367,29 @@ fn read_leaf<'a>(
         Form::Hidden(look, form) => read_hidden(look, form, steps, out, input),
         Form::Captured(form) => read_captured(form, steps, out, input),
         Form::ByBraces(one, other) => read_value(one, other, steps, out, input),
-        Form::Planned(_) => Err(Refusal::Memory(None)),
         Form::Supplied(nameless) => read_supplied(*nameless, steps, out, input),
-        Form::Then(_, _) => Err(Refusal::Memory(None)),
-        Form::When(_, _, _) => Err(Refusal::Memory(None)),
-        Form::Rule(_) => Err(Refusal::Memory(None)),
-        Form::Part(_) => Err(Refusal::Memory(None)),
-        Form::Shaped(_, _) => Err(Refusal::Memory(None)),
-        Form::Only(_) => Err(Refusal::Memory(None)),
+        Form::Planned(planned) => read_planned(*planned, steps, out, input),
+        Form::Then(_, _) => defer(form, steps, out, input),
+        Form::When(_, _, _) => defer(form, steps, out, input),
+        Form::Rule(_) => defer(form, steps, out, input),
+        Form::Part(_) => defer(form, steps, out, input),
+        Form::Shaped(_, _) => defer(form, steps, out, input),
+        Form::Only(_) => defer(form, steps, out, input),
     }
+}
+
+/// Reads a form in the next step.
+#[tactic(auto, using(crate::proofs::Todo::push))]
+fn defer<'a>(
+    form: &'static Form,
+    steps: &mut Vec<Step<'a>>,
+    _out: &Writer,
+    _input: &ParseBuffer<'a>,
+) -> Stepped<()>
+    ensures { Steps IsFault steps.old.items (copy_form (grammar_of form.now) _out.now _input.now) result steps.new.items _out.now _input.now }
+{
+    steps.push(Step::Form(form))?;
+    Ok(())
 }
 
 /// Reads and writes a mark; refuses with this fault if another token is next.
@@ -420,14 +398,14 @@ fn copy_mark_else(
     fault: Fault,
     out: &mut Writer,
     input: &mut ParseBuffer<'_>,
-) -> Parsed<()>
-    ensures { Copies IsSyntax out.old (take_mark (mark_text mark) input.old) result out.new input.new }
+) -> Stepped<()>
+    ensures { Copies IsFault out.old (take_mark (mark_text mark) input.old) result out.new input.new }
 {
-    let refusal = fault.refusal(input);
+    let stop = fault.stop(input);
     match copy_mark(mark, out, input) {
         Ok(()) => Ok(()),
-        Err(Refusal::Memory(at)) => Err(Refusal::Memory(at)),
-        Err(Refusal::Syntax { .. }) => Err(refusal),
+        Err(Stop::Memory(error)) => Err(Stop::Memory(error)),
+        Err(Stop::Syntax { .. }) => Err(stop),
     }
 }
 
@@ -440,8 +418,8 @@ fn enter<'a>(
     steps: &mut Vec<Step<'a>>,
     out: &mut Writer,
     input: &mut ParseBuffer<'a>,
-) -> Parsed<()>
-    ensures { Steps IsSyntax steps.old.items (copy_form (grammar.inside (delimiter_of delimiter) (grammar_of form.now)) out.old input.old) result steps.new.items out.new input.new }
+) -> Stepped<()>
+    ensures { Steps IsFault steps.old.items (copy_form (grammar.inside (delimiter_of delimiter) (grammar_of form.now)) out.old input.old) result steps.new.items out.new input.new }
 {
     match delimiter {
         Delimiter::Paren => enter_by::<kind::Paren>(form, steps, out, input),
@@ -452,18 +430,21 @@ fn enter<'a>(
 }
 
 /// Begins a group with these delimiters.
-#[tactic(auto, using(crate::proofs::Todo::push, crate::proofs::Copied::inside_is, crate::proofs::Copied::not_inside))]
+#[tactic(auto, using(crate::proofs::Stops::token_shallow, crate::proofs::Todo::push, crate::proofs::Copied::inside_is, crate::proofs::Copied::not_inside))]
 fn enter_by<'a, K: DelimiterKind>(
     form: &'static Form,
     steps: &mut Vec<Step<'a>>,
     out: &mut Writer,
     input: &mut ParseBuffer<'a>,
-) -> Parsed<()>
-    ensures { Steps IsSyntax steps.old.items (copy_form (grammar.inside K.delimiter (grammar_of form.now)) out.old input.old) result steps.new.items out.new input.new }
+) -> Stepped<()>
+    ensures { Steps IsFault steps.old.items (copy_form (grammar.inside K.delimiter (grammar_of form.now)) out.old input.old) result steps.new.items out.new input.new }
 {
-    let (delimiters, content) = input.read_group::<K>()?;
+    let (delimiters, content) = match input.read_group::<K>() {
+        Ok(group) => group,
+        Err(refusal) => return Err(stopped(refusal)),
+    };
     out.open(K::delimiter(), delimiters.opening)?;
-    steps.push(Step::Close(K::delimiter(), delimiters.closing, input.fork()))?;
+    steps.push(Step::Close(delimiters.closing, input.fork()))?;
     steps.push(Step::Form(form))?;
     input.advance_to(&content);
     Ok(())
@@ -472,25 +453,24 @@ fn enter_by<'a, K: DelimiterKind>(
 /// Ends a group, and continues after it.
 #[tactic(auto, using(syn_grammar::proofs::Looks::sees_ended))]
 fn leave<'a>(
-    delimiter: Delimiter,
     closing: Span,
     rest: &ParseBuffer<'a>,
     out: &mut Writer,
     input: &mut ParseBuffer<'a>,
-) -> Parsed<()>
-    ensures { Runs IsSyntax (copies.closing (at closing) rest.now out.old input.old) result out.new input.new }
+) -> Stepped<()>
+    ensures { Runs IsFault (copies.closing (at closing) rest.now out.old input.old) result out.new input.new }
 {
     if !input.is_empty() {
         return Err(left_over(input));
     }
-    out.close(delimiter, closing)?;
+    out.close(closing)?;
     input.advance_to(rest);
     Ok(())
 }
 
 /// Reads a group, and copies it unchanged.
-fn copy_group(delimiter: Delimiter, out: &mut Writer, input: &mut ParseBuffer<'_>) -> Parsed<()>
-    ensures { Runs IsSyntax (copy_form (grammar.raw (delimiter_of delimiter)) out.old input.old) result out.new input.new }
+fn copy_group(delimiter: Delimiter, out: &mut Writer, input: &mut ParseBuffer<'_>) -> Stepped<()>
+    ensures { Runs IsFault (copy_form (grammar.raw (delimiter_of delimiter)) out.old input.old) result out.new input.new }
 {
     match delimiter {
         Delimiter::Paren => copy_group_by::<kind::Paren>(out, input),
@@ -501,21 +481,24 @@ fn copy_group(delimiter: Delimiter, out: &mut Writer, input: &mut ParseBuffer<'_
 }
 
 /// Reads a group with these delimiters, and copies it unchanged.
-#[tactic(auto, using(crate::proofs::Copied::raw_is, crate::proofs::Copied::not_raw))]
-fn copy_group_by<K: DelimiterKind>(out: &mut Writer, input: &mut ParseBuffer<'_>) -> Parsed<()>
-    ensures { Runs IsSyntax (copy_form (grammar.raw K.delimiter) out.old input.old) result out.new input.new }
+#[tactic(auto, using(crate::proofs::Stops::token_shallow, crate::proofs::Copied::raw_is, crate::proofs::Copied::not_raw))]
+fn copy_group_by<K: DelimiterKind>(out: &mut Writer, input: &mut ParseBuffer<'_>) -> Stepped<()>
+    ensures { Runs IsFault (copy_form (grammar.raw K.delimiter) out.old input.old) result out.new input.new }
 {
-    let (delimiters, mut content) = input.read_group::<K>()?;
+    let (delimiters, mut content) = match input.read_group::<K>() {
+        Ok(group) => group,
+        Err(refusal) => return Err(stopped(refusal)),
+    };
     out.open(K::delimiter(), delimiters.opening)?;
     append_all(&mut content, out)?;
-    out.close(K::delimiter(), delimiters.closing)?;
+    out.close(delimiters.closing)?;
     Ok(())
 }
 
 /// Copies all that is left unchanged; copies nothing where the output is dropped.
 #[tactic(auto, using(crate::proofs::Writes::adds_nothing))]
-fn append_all(input: &mut ParseBuffer<'_>, out: &mut Writer) -> Parsed<()>
-    ensures { OrMemory IsSyntax result (λ x. out.new ≡ adds out.old input.old) }
+fn append_all(input: &mut ParseBuffer<'_>, out: &mut Writer) -> Stepped<()>
+    ensures { OrMemory IsFault result (λ x. out.new ≡ adds out.old input.old) }
 {
     if out.is_dropping() {
         return Ok(());
@@ -526,24 +509,24 @@ fn append_all(input: &mut ParseBuffer<'_>, out: &mut Writer) -> Parsed<()>
 }
 
 /// A copy of all that is left, which is consumed. Fails only where memory is refused.
-fn all_of(input: &mut ParseBuffer<'_>) -> Parsed<TokenStream>
-    ensures copy { OrMemory IsSyntax result (λ copy. copy ≡ input.old) }
+fn all_of(input: &mut ParseBuffer<'_>) -> Stepped<TokenStream>
+    ensures copy { OrMemory IsFault result (λ copy. copy ≡ input.old) }
     ensures read { OnOk result (input.new ≡ end) }
 {
     match input.rest() {
         Ok(all) => Ok(all),
-        Err(_) => Err(Refusal::Memory(None)),
+        Err(error) => Err(Stop::Memory(error.into_alloc_error())),
     }
 }
 
 /// Reads and writes a mark, and copies all that is left.
 #[tactic(auto, using(crate::proofs::Copied::rest_more, crate::proofs::Copied::rest_none, crate::proofs::Copied::rest_not))]
-fn copy_rest(mark: Mark, out: &mut Writer, input: &mut ParseBuffer<'_>) -> Parsed<()>
-    ensures { Runs IsSyntax (copy_form (grammar.rest_after (mark_text mark)) out.old input.old) result out.new input.new }
+fn copy_rest(mark: Mark, out: &mut Writer, input: &mut ParseBuffer<'_>) -> Stepped<()>
+    ensures { Runs IsFault (copy_form (grammar.rest_after (mark_text mark)) out.old input.old) result out.new input.new }
 {
     copy_mark(mark, out, input)?;
     if input.is_empty() {
-        return Err(input.refusal("unexpected end of input"));
+        return Err(unexpected(input, "unexpected end of input"));
     }
     let tokens = all_of(input)?;
     out.append(&tokens)?;
@@ -560,8 +543,8 @@ fn read_value<'a>(
     steps: &mut Vec<Step<'a>>,
     out: &Writer,
     input: &ParseBuffer<'a>,
-) -> Parsed<()>
-    ensures { Steps IsSyntax steps.old.items (copy_form (either (such trailing_brace (grammar.rule whole_expression) & grammar_of one.now) (such no_trailing_brace (grammar.rule whole_expression) & grammar_of other.now)) out.now input.now) result steps.new.items out.now input.now }
+) -> Stepped<()>
+    ensures { Steps IsFault steps.old.items (copy_form (either (such trailing_brace (grammar.rule whole_expression) & grammar_of one.now) (such no_trailing_brace (grammar.rule whole_expression) & grammar_of other.now)) out.now input.now) result steps.new.items out.now input.now }
 {
     steps.push(Step::ByBraces(one, other, input.fork()))?;
     steps.push(Step::Form(form_of(Rule::WHOLE_EXPRESSION)))?;
@@ -577,8 +560,8 @@ fn read_by_braces<'a>(
     steps: &mut Vec<Step<'a>>,
     _out: &Writer,
     input: &ParseBuffer<'a>,
-) -> Parsed<()>
-    ensures { Steps IsSyntax steps.old.items (by_braces (grammar_of one.now) (grammar_of other.now) begin.now _out.now input.now) result steps.new.items _out.now input.now }
+) -> Stepped<()>
+    ensures { Steps IsFault steps.old.items (by_braces (grammar_of one.now) (grammar_of other.now) begin.now _out.now input.now) result steps.new.items _out.now input.now }
 {
     if has_trailing_brace(begin, input) {
         steps.push(Step::Form(one))?;

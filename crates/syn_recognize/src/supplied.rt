@@ -3,22 +3,22 @@ ghost use Rattle.std.specs.Prelude.{◌≡◌, true, OnOk};
 ghost use Rattle.syn_grammar.specs.Tokens.{Before_less};
 ghost use Rattle.syn_grammar.specs.Grammar.{at_unnamed};
 ghost use Rattle.syn_grammar.specs.Take.{sees};
-ghost use Rattle.syn_parse.specs.Refusals.{IsSyntax};
 ghost use Rattle.syn_recognize.specs.Forms.{grammar_of};
 ghost use Rattle.syn_recognize.specs.Supplied.{supplied_form, typed_form, Unnamed};
 ghost use Rattle.syn_recognize.specs.Copies.{copy_form};
 ghost use Rattle.syn_recognize.specs.Steps.{Steps};
+ghost use Rattle.syn_recognize.specs.Stops.{IsFault};
 
 use crate::form::Form;
 use crate::item_looks::at_unnamed;
 use crate::look::Look;
 use crate::rules::Rule;
 use crate::step::Step;
+use crate::stop::Stepped;
 use crate::words::Mark;
 use crate::writer::Writer;
 use std::alloc::AllocError;
 use syn_parse::buffer::ParseBuffer;
-use syn_parse::read::refusal::Parsed;
 use syn_tokens::punct::Spacing;
 
 /// What follows the name of a parameter and its colon.
@@ -67,8 +67,8 @@ pub(crate) fn read_supplied<'a>(
     steps: &mut Vec<Step<'a>>,
     out: &mut Writer,
     input: &ParseBuffer<'a>,
-) -> Parsed<()>
-    ensures { Steps IsSyntax steps.old.items (copy_form (supplied_form nameless) out.old input.now) result steps.new.items out.new input.now }
+) -> Stepped<()>
+    ensures { Steps IsFault steps.old.items (copy_form (supplied_form nameless) out.old input.now) result steps.new.items out.new input.now }
 {
     if at_unnamed(input) {
         write_unnamed(out, input)?;

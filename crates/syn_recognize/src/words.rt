@@ -7,16 +7,16 @@ ghost use Rattle.syn_grammar.specs.Tokens.{one_of_texts};
 ghost use Rattle.syn_grammar.specs.Words.{keywords};
 ghost use Rattle.syn_grammar.specs.Grammar.{word};
 ghost use Rattle.syn_grammar.specs.Take.{sees, take_token, take_mark};
-ghost use Rattle.syn_parse.specs.Refusals.{IsSyntax};
 ghost use Rattle.syn_recognize.specs.Copies.{Copies};
 ghost use Rattle.syn_recognize.specs.May as may;
 ghost use Rattle.syn_recognize.specs.May.{head_of};
 ghost use Rattle.syn_recognize.specs.Names.{word_text, mark_text};
+ghost use Rattle.syn_recognize.specs.Stops.{IsFault};
 
+use crate::stop::Stepped;
 use crate::token::{copy_mark1, copy_mark2, copy_mark3, copy_text};
 use crate::writer::Writer;
 use syn_parse::buffer::ParseBuffer;
-use syn_parse::read::refusal::Parsed;
 use syn_tokens::token;
 
 /// A word.
@@ -207,8 +207,8 @@ pub(crate) fn at_mark(mark: Mark, input: &ParseBuffer<'_>) -> bool
 
 /// Reads and writes this word.
 #[tactic(auto, unfolding(syn_tokens::specs::Leaves::is_known_word))]
-pub(crate) fn copy_word(it: Word, out: &mut Writer, input: &mut ParseBuffer<'_>) -> Parsed<()>
-    ensures { Copies IsSyntax out.old (take_token (word (word_text it)) input.old) result out.new input.new }
+pub(crate) fn copy_word(it: Word, out: &mut Writer, input: &mut ParseBuffer<'_>) -> Stepped<()>
+    ensures { Copies IsFault out.old (take_token (word (word_text it)) input.old) result out.new input.new }
 {
     match it {
         Word::As => copy_text("as", "expected `as`", out, input),
@@ -256,8 +256,8 @@ pub(crate) fn copy_word(it: Word, out: &mut Writer, input: &mut ParseBuffer<'_>)
 
 /// Reads and writes this mark.
 #[tactic(auto, unfolding(syn_tokens::specs::Punct::is_punct_character))]
-pub(crate) fn copy_mark(mark: Mark, out: &mut Writer, input: &mut ParseBuffer<'_>) -> Parsed<()>
-    ensures { Copies IsSyntax out.old (take_mark (mark_text mark) input.old) result out.new input.new }
+pub(crate) fn copy_mark(mark: Mark, out: &mut Writer, input: &mut ParseBuffer<'_>) -> Stepped<()>
+    ensures { Copies IsFault out.old (take_mark (mark_text mark) input.old) result out.new input.new }
 {
     match mark {
         Mark::And => copy_mark1('&', "expected `&`", out, input),

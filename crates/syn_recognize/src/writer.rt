@@ -1,5 +1,5 @@
 //! The output of a reading.
-ghost use Rattle.std.specs.Prelude.{◌≡◌, true, false, None, OnOk};
+ghost use Rattle.std.specs.Prelude.{◌≡◌, true, false, IfOk, OnOk, MatchOption};
 ghost use Rattle.syn_grammar.specs.Tokens.{ident, leaf, punct, end};
 ghost use Rattle.syn_tokens.specs.Punct.{is_joint, is_punct_character};
 ghost use Rattle.syn_tokens.specs.Spelled.{is_plain_word};
@@ -7,19 +7,11 @@ ghost use Rattle.syn_tokens.specs.Spans.{at};
 ghost use Rattle.syn_tokens.specs.Delimiters.{delimiter_of};
 ghost use Rattle.syn_recognize.specs.PrintedRows.{way};
 ghost use Rattle.syn_recognize.specs.Trailing.{IsLeaf};
-ghost use Rattle.syn_recognize.specs.Written.{adds, enters, leaves, blank, unwritten, drops, stream_of};
-ghost use Rattle.syn_recognize.specs.Courses.{Fair};
-ghost use Rattle.syn_grammar.specs.Promises.{OrMemory};
-ghost use Rattle.syn_parse.specs.Refusals.{IsSyntax};
-ghost use Rattle.syn_parse.specs.declared.read.refusal.Refusal.TheVariants.{Memory};
+ghost use Rattle.syn_recognize.specs.Written.{adds, enters, leaves, blank, unwritten, closed, drops, stream_of};
 
-use crate::guess::Guess;
-use crate::late::Late;
-use crate::notes::Notes;
 use std::alloc::{AllocError, Global};
 use std::marker::Model;
 use std::mem;
-use syn_parse::read::refusal::{Parsed, Refusal};
 use syn_tokens::delimiter::Delimiter;
 use syn_tokens::print::Print;
 use syn_tokens::punct::Spacing;
@@ -32,14 +24,8 @@ use syn_tokens::stream::builder::StreamBuilder;
 pub struct Writer {
     /// None where the output is dropped.
     out: Option<StreamBuilder>,
-    /// Whether lists are written with their lifetimes first.
+    /// Whether trees are written as they are printed.
     printing: bool,
-    /// Whether notes on lists and plans are taken; then the output is dropped.
-    noting: bool,
-    /// The notes that are taken, or were.
-    notes: Notes,
-    /// Whether a guess about a list or a plan was wrong.
-    mistaken: bool,
     alloc: Global,
 }
 
@@ -54,32 +40,29 @@ impl Model for Writer {
 }
 
 impl Writer {
-    /// An empty output of trees as they are shown, with these notes on them. Allocates from `alloc`.
-    pub(crate) fn showing(alloc: Global, notes: Notes) -> Writer
-        ensures { result ≡ blank false }
+    /// An empty output.
+    fn empty(alloc: Global, printing: bool) -> Writer
+        ensures { result ≡ blank printing }
     {
         Writer {
             out: Some(StreamBuilder::new(alloc)),
-            printing: false,
-            noting: false,
-            notes,
-            mistaken: false,
+            printing,
             alloc,
         }
     }
 
-    /// An empty output of trees as they are printed, with these notes on them.
-    pub(crate) fn printing(alloc: Global, notes: Notes) -> Writer
+    /// An empty output of trees as they are shown. Allocates from `alloc`.
+    pub(crate) fn showing(alloc: Global) -> Writer
+        ensures { result ≡ blank false }
+    {
+        Writer::empty(alloc, false)
+    }
+
+    /// An empty output of trees as they are printed.
+    pub(crate) fn printing(alloc: Global) -> Writer
         ensures { result ≡ blank true }
     {
-        Writer {
-            out: Some(StreamBuilder::new(alloc)),
-            printing: true,
-            noting: false,
-            notes,
-            mistaken: false,
-            alloc,
-        }
+        Writer::empty(alloc, true)
     }
 
     /// An output that is dropped.
@@ -89,28 +72,11 @@ impl Writer {
         Writer {
             out: None,
             printing: false,
-            noting: false,
-            notes: Notes::none(alloc),
-            mistaken: false,
             alloc,
         }
     }
 
-    /// An output that is dropped, while notes on lists and plans are taken.
-    pub(crate) fn noting(alloc: Global) -> Writer
-        ensures { result ≡ unwritten }
-    {
-        Writer {
-            out: None,
-            printing: false,
-            noting: true,
-            notes: Notes::none(alloc),
-            mistaken: false,
-            alloc,
-        }
-    }
-
-    /// Whether lists are written with their lifetimes first.
+    /// Whether trees are written as they are printed.
     pub(crate) fn is_printing(&self) -> bool
         ensures { result ≡ self.now.printing }
     {
@@ -122,91 +88,6 @@ impl Writer {
         ensures { result ≡ drops self.now }
     {
         self.out.is_none()
-    }
-
-    /// Whether notes on lists and plans are taken.
-    pub(crate) fn is_noting(&self) -> bool {
-        self.noting
-    }
-
-    /// Begins the notes of one more list with another member than lifetimes; returns its number.
-    pub(crate) fn begin_list(&mut self) -> Result<usize, AllocError>
-        ensures { self.new ≡ self.old }
-    {
-        self.notes.begin_list()
-    }
-
-    /// Notes a late member of the list of this number.
-    pub(crate) fn note(&mut self, list: usize, late: Late) -> Result<(), AllocError>
-        ensures { self.new ≡ self.old }
-    {
-        self.notes.note(list, late)
-    }
-
-    /// Takes the notes of the next list.
-    pub(crate) fn noted(&mut self) -> Vec<Late>
-        ensures { self.new ≡ self.old }
-    {
-        self.notes.next_list()
-    }
-
-    /// The guess for the next plan: its notes; without notes, that it isn't stored verbatim, and that nothing would be read as generics.
-    /// With its number, if notes are taken. Fails only where memory is refused.
-    pub(crate) fn guess(&mut self) -> Parsed<Guess>
-        ensures fair { OrMemory IsSyntax result (λ guess. Fair self.old.printing guess.leads) }
-        ensures unchanged { self.new ≡ self.old }
-    {
-        if self.noting {
-            let number = self.notes.begin_plan()?;
-            return Ok(Guess {
-                kept: false,
-                leads: self.guessed(false),
-                number: Some(number),
-            });
-        }
-        let noted = self.notes.next_plan();
-        Ok(Guess {
-            kept: noted.kept,
-            leads: self.guessed(noted.leads),
-            number: None,
-        })
-    }
-
-    /// The guess for the generics of an impl: this where trees are written as they are printed, else none.
-    fn guessed(&self, leads: bool) -> Option<bool>
-        ensures { Fair self.now.printing result }
-    {
-        if self.printing { Some(leads) } else { None }
-    }
-
-    /// Records that a guess about a list or a plan was wrong, and returns `Refusal::Memory`.
-    pub(crate) fn wrong_guess(&mut self) -> Refusal
-        ensures memory { result ≡ Memory None }
-        ensures unchanged { self.new ≡ self.old }
-    {
-        self.mistaken = true;
-        Refusal::Memory(None)
-    }
-
-    /// Whether a guess about a list or a plan was wrong.
-    pub(crate) fn is_mistaken(&self) -> bool {
-        self.mistaken
-    }
-
-    /// Notes that the tokens of the plan of this number are stored verbatim.
-    pub(crate) fn note_kept(&mut self, plan: usize)
-        ensures { self.new ≡ self.old }
-    {
-        self.notes.note_kept(plan);
-    }
-
-    /// Notes that the tokens after the generics of this plan's impl, or its self type, would be read as generics.
-    pub(crate) fn note_lead(&mut self, plan: Option<usize>)
-        ensures { self.new ≡ self.old }
-    {
-        if let Some(plan) = plan {
-            self.notes.note_lead(plan);
-        }
     }
 
     /// Writes a token. On failure nothing is known of the output.
@@ -261,6 +142,32 @@ impl Writer {
         }
     }
 
+    /// Whether no group is open.
+    #[tactic(auto, unfolding(syn_tokens::specs::Building::is_open))]
+    pub(crate) fn is_closed(&self) -> bool
+        ensures { result ≡ closed self.now }
+    {
+        match &self.out {
+            Some(out) => !out.is_open(),
+            None => true,
+        }
+    }
+
+    /// Appends what another output wrote, without copying it. On failure nothing is known of the output.
+    #[tactic(auto, using(crate::proofs::Writes::adds_is, crate::proofs::Writes::adds_none, crate::proofs::Writes::none_is_open))]
+    pub(crate) fn append_written(&mut self, aside: Writer) -> Result<(), AllocError>
+        requires { closed aside ≡ true }
+        ensures { OnOk result (self.new ≡ adds self.old (stream_of aside)) }
+    {
+        let Some(out) = &mut self.out else {
+            return Ok(());
+        };
+        match aside.out {
+            Some(aside) => out.append_built(aside),
+            None => Ok(()),
+        }
+    }
+
     /// Enters a group; on failure the output is unchanged.
     #[tactic(auto, using(syn_tokens::proofs::Prints::opened_group, crate::proofs::Writes::enters_is))]
     pub(crate) fn open(&mut self, delimiter: Delimiter, opening: Span) -> Result<(), AllocError>
@@ -272,66 +179,73 @@ impl Writer {
         }
     }
 
-    /// Leaves the innermost open group, which has these delimiters; on failure the output is unchanged.
-    #[tactic(auto, using(crate::proofs::Writes::group_closed, crate::proofs::Writes::leaves_is))]
-    pub(crate) fn close(&mut self, delimiter: Delimiter, closing: Span) -> Result<(), AllocError>
+    /// Leaves the innermost open group; on failure the output is unchanged. Changes nothing where no group is open.
+    #[tactic(auto, using(crate::proofs::Writes::none_left, crate::proofs::Writes::leaves_is))]
+    pub(crate) fn close(&mut self, closing: Span) -> Result<(), AllocError>
         ensures { OnOk result (self.new ≡ leaves (at closing) self.old) }
     {
         let Some(out) = &mut self.out else {
             return Ok(());
         };
-        match out.close(delimiter, closing) {
-            Ok(()) => Ok(()),
-            Err(_) => Err(AllocError),
+        if !out.is_open() {
+            return Ok(());
         }
+        out.close_group(closing)
     }
 
-    /// Sets the output aside: what follows is written aside, as it is printed. Returns the output so far.
-    pub(crate) fn print_aside(&mut self) -> Parsed<Box<Writer>>
-        ensures before { OrMemory IsSyntax result (λ before. before.value ≡ self.old) }
-        ensures blank { OrMemory IsSyntax result (λ before. self.new ≡ blank true) }
+    /// Sets the output aside: what follows is written aside, in the same way. Returns the output so far.
+    pub(crate) fn set_aside(&mut self) -> Result<Box<Writer>, AllocError>
+        ensures before { IfOk result (λ before. before.value ≡ self.old) }
+        ensures aside { OnOk result (self.new ≡ blank self.old.printing) }
     {
-        let aside = Writer::printing(self.alloc, Notes::none(self.alloc));
+        let aside = Writer::empty(self.alloc, self.printing);
         let before = mem::replace(self, aside);
         Ok(Box::new(self.alloc, before)?)
     }
 
     /// Drops what is written from here on. Returns the output so far.
-    pub(crate) fn drop_aside(&mut self) -> Parsed<Box<Writer>>
-        ensures before { OrMemory IsSyntax result (λ before. before.value ≡ self.old) }
-        ensures dropping { OrMemory IsSyntax result (λ before. self.new ≡ unwritten) }
+    pub(crate) fn drop_aside(&mut self) -> Result<Box<Writer>, AllocError>
+        ensures before { IfOk result (λ before. before.value ≡ self.old) }
+        ensures dropping { OnOk result (self.new ≡ unwritten) }
     {
         let aside = Writer::dropping(self.alloc);
         let before = mem::replace(self, aside);
         Ok(Box::new(self.alloc, before)?)
     }
 
-    /// Restores the output that was set aside, and returns what was written aside.
-    pub(crate) fn put_back(&mut self, before: Box<Writer>) -> Parsed<TokenStream>
-        ensures aside { OrMemory IsSyntax result (λ aside. aside ≡ stream_of self.old) }
-        ensures before { OrMemory IsSyntax result (λ aside. self.new ≡ before.value) }
+    /// Drops what was written, and what is written from here on.
+    pub(crate) fn drop_all(&mut self)
+        ensures { self.new ≡ unwritten }
     {
-        let aside = mem::replace(self, Box::into_inner(before));
-        let (tokens, _notes) = aside.finish()?;
-        Ok(tokens)
+        *self = Writer::dropping(self.alloc);
     }
 
-    /// The tokens written, and the notes taken. Returns `Refusal::Memory` where a group is still open, which never happens.
-    pub(crate) fn finish(self) -> Parsed<(TokenStream, Notes)>
-        ensures { OrMemory IsSyntax result (λ done. done.0 ≡ stream_of self) }
+    /// Restores the output that was set aside, and drops what was written aside.
+    pub(crate) fn restore(&mut self, before: Box<Writer>)
+        ensures { self.new ≡ before.value }
     {
-        let Writer {
-            out,
-            notes,
-            alloc,
-            ..
-        } = self;
+        *self = Box::into_inner(before);
+    }
+
+    /// Exchanges the output with one that was set aside.
+    pub(crate) fn exchange(&mut self, other: &mut Box<Writer>)
+        ensures here { self.new ≡ other.old.value }
+        ensures there { other.new.value ≡ self.old }
+    {
+        mem::swap(self, &mut **other);
+    }
+
+    /// The tokens written; none where a group is still open.
+    pub(crate) fn finish(self) -> Option<TokenStream>
+        ensures { MatchOption result (closed self ≡ false) (λ tokens. (closed self ≡ true) × (tokens ≡ stream_of self)) }
+    {
+        let Writer { out, alloc, .. } = self;
         let Some(out) = out else {
-            return Ok((TokenStream::new(alloc), notes));
+            return Some(TokenStream::new(alloc));
         };
         match out.finish() {
-            Ok(stream) => Ok((stream, notes)),
-            Err(_) => Err(Refusal::Memory(None)),
+            Ok(tokens) => Some(tokens),
+            Err(_) => None,
         }
     }
 }

@@ -8,6 +8,7 @@ mod copies;
 mod deep;
 mod deferred;
 mod deferred_items;
+mod flat;
 mod handmade;
 mod handmade_exprs;
 mod handmade_generics;

@@ -1,12 +1,14 @@
 -- The states that the calls of a builder leave.
-use Rattle.std.proofs.Common.{◌≡◌, ℕ, true, ◌+◌, ◌-◌, ◌≤◌, List, [], ◌∷◌, ◌++◌, length, length-append, refl, sym, subst, ap, ◌∙◌, set, take, arith}
+use Rattle.std.proofs.Common.{◌≡◌, ℕ, Bool, true, nat_eq, ◌+◌, ◌-◌, ◌≤◌, List, [], ◌∷◌, ◌++◌, length, length-append, refl, sym, subst, ap, ◌∙◌, set, take, arith}
+use mathlib.Core.Bool.{not}
+use Rattle.std.proofs.Math.Dec.{eqb-suc-zero}
 use Rattle.std.proofs.lemmas.List.{take-append-le, take-set-le, take_all}
 use Rattle.syn_grammar.specs.Tokens.{Stream, end, group, ◌⧺◌}
 use Rattle.syn_grammar.specs.Take as grammar
 use Rattle.syn_grammar.specs.Tokens as grammar_span
 use Rattle.syn_tokens.specs.Spans.{at}
 use Rattle.syn_tokens.specs.Delimiters.{delimiter_of}
-use Rattle.syn_tokens.specs.Faults.{FaultValue}
+use Rattle.syn_tokens.specs.Faults.{ErrorValue}
 use Rattle.syn_tokens.specs.Entries.{encode, decode, IsFlat}
 use Rattle.syn_tokens.specs.Building.{OpenGroup, Building, innermost, around, is_open_in, is_open, out_of_group, open_delimiter, laid, groups_in, stream_in, building, closed_in, Closes, NotOpen, IsUnbalanced, unbalanced}
 use Rattle.syn_tokens.specs.Builders.{pending, places, front, IsBuilt, IsBegun}
@@ -164,6 +166,17 @@ pub one_open : (gs : List OpenGroup) (g : OpenGroup) → is_open_in (gs ++ g ∷
 one_open [] g = refl
 one_open (h ∷ gs) g = refl
 
+open_where : (ps : List Pending) (gs : List OpenGroup) → ps ≡ places 0 gs → not (nat_eq (length ps) 0) ≡ is_open_in gs
+open_where [] [] e = refl
+open_where [] (g ∷ gs) e = absurd (cc)
+open_where (p ∷ ps) [] e = absurd (cc)
+open_where (p ∷ ps) (g ∷ gs) e = ap not (eqb-suc-zero (length ps))
+
+-- a group is open exactly where one is pending
+pub open_pending : (m : ℕ) (es : List Entry) (ps : List Pending) (n : ℕ) (now : Building) (empty : Bool) → IsBuilt es ps n → building m es ≡ now → empty ≡ nat_eq (length ps) 0 → not empty ≡ is_open now
+unfolding is_open
+open_pending m es ps n now empty b v e = ap not e ∙ open_where ps (groups_in es) b.placed ∙ ap (λ (x : Building). is_open_in x.open_groups) v
+
 -- the innermost open group
 pub kept_last : (es : List Entry) (ps : List Pending) (n : ℕ) → IsBuilt es ps n → (around : List Pending) (p : Pending) → ps ≡ around ++ p ∷ [] → Last 0 (groups_in es) around p
 kept_last es ps n b around p e = last_place 0 (groups_in es) around p (sym b.placed ∙ e)
@@ -295,7 +308,7 @@ module _ (m : ℕ) (es : List Entry) (ps : List Pending) (n : ℕ) (b : IsBuilt 
             ∙ ap (λ f. record { before = now.before; open_groups = l.around; stream = l.innermost.outer ⧺ group (delimiter_of f) (at l.innermost.opening) (at c) now.stream end }) there;
       }
 
-pub reported : (s : Span) (reason : Type 0) (e : List FaultValue) → e ≡ unbalanced s → reason → IsUnbalanced s reason e
+pub reported : (s : Span) (reason : Type 0) (e : ErrorValue) → e ≡ unbalanced s → reason → IsUnbalanced s reason e
 reported s reason e is r = subst (IsUnbalanced s reason) (sym is) (refl, r)
 
 -- THE END

@@ -6,7 +6,7 @@ use Rattle.syn_grammar.specs.Tokens.{Stream, end, group, ◌⧺◌}
 use Rattle.syn_grammar.specs.Codes.{stream_code}
 use Rattle.syn_tokens.specs.Spans.{at}
 use Rattle.syn_tokens.specs.Delimiters.{delimiter_of}
-use Rattle.syn_tokens.specs.Faults.{FaultValue}
+use Rattle.syn_tokens.specs.Faults.{ErrorValue, syntax_error, too_deep, out_of_memory}
 use Rattle.syn_tokens.specs.Entries.{encode, decode, states, from, delimiter_from}
 use Rattle.syn_tokens.specs.declared.span.Span.{Span}
 use Rattle.syn_tokens.specs.contracts.span.Span as span
@@ -78,13 +78,14 @@ pub record Closes (delimiter : Delimiter) (closing : Span) (old new : Building) 
 abbrev pub NotOpen : Delimiter → Building → Type 0
 NotOpen d b = (around : List OpenGroup) (g : OpenGroup) → b.open_groups ≡ around ++ g ∷ [] → g.delimiter ≡ d → ⊥
 
-abbrev pub unbalanced : Span → List FaultValue
-unbalanced s = (s, codes "unbalanced group") ∷ []
+abbrev pub unbalanced : Span → ErrorValue
+unbalanced s = syntax_error ((s, codes "unbalanced group") ∷ [])
 
 -- memory was refused, or a delimiter there closes no group, for this reason
-abbrev pub IsUnbalanced : Span → Type 0 → List FaultValue → Type 0
-IsUnbalanced s reason [] = Unit {0}
-IsUnbalanced s reason (f ∷ fs) = (f ∷ fs ≡ unbalanced s) × reason
+abbrev pub IsUnbalanced : Span → Type 0 → ErrorValue → Type 0
+IsUnbalanced s reason out_of_memory = Unit {0}
+IsUnbalanced s reason (too_deep t) = ⊥
+IsUnbalanced s reason (syntax_error fs) = (syntax_error fs ≡ unbalanced s) × reason
 
 -- WHAT PRINTS DO, in definitions that a proof unfolds where it needs to
 

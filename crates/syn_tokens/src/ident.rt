@@ -4,6 +4,7 @@ ghost use Rattle.std.specs.Cmp.{on_equiv, on_per};
 ghost use Rattle.syn_grammar.specs.Tokens.{same_text};
 ghost use Rattle.syn_tokens.specs.Equal.{same_text_equiv, same_text_per};
 ghost use Rattle.syn_tokens.specs.Idents.{is_keyword, is_identifier};
+ghost use Rattle.syn_tokens.specs.Faults.{out_of_memory, syntax_error};
 
 use crate::error::{Error, Result};
 use crate::ident::ident_ref::IdentRef;
@@ -58,7 +59,7 @@ impl Ident {
     pub fn new(alloc: Global, text: &str, span: Span) -> Result<Ident>
         ensures identifier { IfOk result (λ i. IsTrue (is_identifier text.now)) }
         ensures value { IfOk result (λ i. i ≡ record { text = text.now; span = span }) }
-        ensures err { IfErr result (λ e. e ≡ (if is_identifier text.now then [] else (span, codes "expected identifier") ∷ [])) }
+        ensures err { IfErr result (λ e. e ≡ (if is_identifier text.now then out_of_memory else syntax_error ((span, codes "expected identifier") ∷ []))) }
     {
         if is_identifier(text) {
             Ok(Ident::of_identifier(alloc, text, span)?)
@@ -123,7 +124,7 @@ impl Ident {
     /// A copy with the same span. It allocates nothing, and fails only if there are 2^64 - 1 copies of the text.
     pub fn try_clone(&self, _alloc: Global) -> Result<Ident>
         ensures ok { IfOk result (λ i. i ≡ self.now) }
-        ensures err { IfErr result (λ e. e ≡ []) }
+        ensures err { IfErr result (λ e. e ≡ out_of_memory) }
     {
         Ok(self.copy()?)
     }

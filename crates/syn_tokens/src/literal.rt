@@ -3,6 +3,7 @@ ghost use Rattle.std.specs.Prelude.{◌≡◌, ◌∷◌, [], IfOk, IfErr};
 ghost use Rattle.std.specs.Cmp.{on_equiv, on_per};
 ghost use Rattle.syn_grammar.specs.Tokens.{same_text};
 ghost use Rattle.syn_tokens.specs.Equal.{same_text_equiv, same_text_per};
+ghost use Rattle.syn_tokens.specs.Faults.{out_of_memory};
 
 use crate::error::Result;
 use crate::literal::literal_ref::LiteralRef;
@@ -71,7 +72,7 @@ impl Literal {
     /// Makes a literal of this kind with any text; fails only if memory is refused.
     pub fn new(alloc: Global, kind: LitKind, text: &str, span: Span) -> Result<Literal>
         ensures ok { IfOk result (λ l. l ≡ record { kind = kind; text = text.now; span = span }) }
-        ensures err { IfErr result (λ e. e ≡ []) }
+        ensures err { IfErr result (λ e. e ≡ out_of_memory) }
     {
         Ok(Literal {
             kind,
@@ -115,7 +116,7 @@ impl Literal {
     /// A copy with the same span. It allocates nothing, and fails only if there are 2^64 - 1 copies of the text.
     pub fn try_clone(&self, _alloc: Global) -> Result<Literal>
         ensures ok { IfOk result (λ l. l ≡ self.now) }
-        ensures err { IfErr result (λ e. e ≡ []) }
+        ensures err { IfErr result (λ e. e ≡ out_of_memory) }
     {
         Ok(self.copy()?)
     }

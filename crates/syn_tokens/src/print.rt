@@ -3,6 +3,7 @@ ghost use Rattle.std.specs.Prelude.{◌≡◌, [], OnOk, OnErr, IfErr};
 ghost use Rattle.syn_grammar.specs.Tokens.{◌⧺◌};
 ghost use Rattle.syn_grammar.specs.Grammar.{print};
 ghost use Rattle.syn_tokens.specs.Building.{added};
+ghost use Rattle.syn_tokens.specs.Faults.{out_of_memory};
 
 mod leaves;
 mod lists;
@@ -33,7 +34,7 @@ pub trait ToTokens: Print {
     fn to_tokens(&self, tokens: &mut TokenStream) -> Result<()>
         ensures ok { OnOk result (tokens.new ≡ tokens.old ⧺ print (Self.syntax self.now)) }
         ensures err { OnErr result (tokens.new ≡ tokens.old) }
-        ensures memory { IfErr result (λ e. e ≡ []) }
+        ensures memory { IfErr result (λ e. e ≡ out_of_memory) }
     {
         let empty = TokenStream::new(tokens.alloc());
         let mut out = StreamBuilder::following(std::mem::replace(tokens, empty));

@@ -141,9 +141,6 @@ impl<T: Drop, P: Drop> Punctuated<T, P> {
         ensures ok { OnOk result (self.new ≡ record { pairs = self.old.pairs ++ (value, punct) ∷ []; last = None }) }
         ensures err { OnErr result (self.new ≡ self.old) }
     {
-        if self.inner.len() == usize::MAX - 1 {
-            return Err(AllocError);
-        }
         make_room(&mut self.inner)?;
         self.inner.push((value, punct))?;
         Ok(())
@@ -155,9 +152,6 @@ impl<T: Drop, P: Drop> Punctuated<T, P> {
         ensures ok { OnOk result (IfSome self.old.last (λ value. self.new ≡ record { pairs = self.old.pairs ++ (value, punct) ∷ []; last = None })) }
         ensures err { OnErr result (self.new ≡ self.old) }
     {
-        if self.inner.len() == usize::MAX - 1 {
-            return Err(AllocError);
-        }
         make_room(&mut self.inner)?;
         if let Some(value) = self.last.take() {
             self.inner.push((Box::into_inner(value), punct))?;
@@ -176,9 +170,6 @@ impl<T: Drop, P: Drop> Punctuated<T, P> {
             last,
             alloc: _,
         } = other;
-        if pairs.len() > usize::MAX - 1 - self.inner.len() {
-            return Err(AllocError);
-        }
         self.inner.append(&mut pairs)?;
         self.last = last;
         Ok(())

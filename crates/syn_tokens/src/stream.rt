@@ -5,6 +5,7 @@ ghost use Rattle.syn_tokens.specs.Spans.{at};
 ghost use Rattle.syn_tokens.specs.Delimiters.{delimiter_of};
 ghost use Rattle.syn_tokens.specs.Entries.{encode, decode, IsFlat, IsToken};
 ghost use Rattle.syn_grammar.specs.Take.{first, length, is_end};
+ghost use Rattle.syn_tokens.specs.Faults.{out_of_memory};
 
 use crate::error::Result;
 use crate::span::Span;
@@ -160,7 +161,7 @@ impl TokenStream {
     pub fn push(&mut self, tree: TokenTree) -> Result<()>
         ensures ok { OnOk result (self.new ≡ self.old ⧺ before tree end) }
         ensures err { OnErr result (self.new ≡ self.old) }
-        ensures memory { IfErr result (λ e. e ≡ []) }
+        ensures memory { IfErr result (λ e. e ≡ out_of_memory) }
     {
         Ok(self.add(tree)?)
     }

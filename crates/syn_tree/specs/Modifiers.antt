@@ -1,7 +1,7 @@
 -- THE MODIFIERS OF FIELDS AND ITEMS: what syntax they represent, and the faults of those that nobody expects.
 use Rattle.std.specs.Prelude.{◌≡◌, ℕ, List, [], ◌∷◌, ◌++◌, Option, Some, None, Result, Ok, Err, codes, slice_index_or}
 use Rattle.syn_grammar.specs.Grammar.{Syntax, Nothing, Both}
-use Rattle.syn_tokens.specs.Faults.{FaultValue, IsSyntaxError}
+use Rattle.syn_tokens.specs.Faults.{FaultValue, ErrorValue, syntax_error}
 use Rattle.syn_tokens.specs.Kinds.{Not, auto_syntax, const_syntax, default_syntax, not_syntax}
 use Rattle.syn_tokens.specs.Leaves.{maybe}
 use Rattle.syn_tokens.specs.declared.span.Span.{Span}
@@ -34,10 +34,14 @@ syntax_of_TraitModifiers m = Both (maybe const_syntax m.constness) (maybe auto_s
 
 -- WHAT IS REPORTED
 
+abbrev pub HasFault : List FaultValue → Type 0
+HasFault [] = ⊥
+HasFault (f ∷ fs) = Unit {0}
+
 -- Ok where there are no faults, and else an error of just these
-abbrev pub Reports : {X : Type 0} → List FaultValue → Result X (List FaultValue) → Type 0
+abbrev pub Reports : {X : Type 0} → List FaultValue → Result X ErrorValue → Type 0
 Reports faults (Ok x) = faults ≡ []
-Reports faults (Err e) = (e ≡ faults) × IsSyntaxError e
+Reports faults (Err e) = (e ≡ syntax_error faults) × HasFault faults
 
 -- a fault at this place, if there is one
 abbrev pub unexpected : List ℕ → Option Span → List FaultValue

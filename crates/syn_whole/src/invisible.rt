@@ -37,7 +37,7 @@ pub(crate) fn parse_opened<T: Parse + Drop>(tokens: &TokenStream) -> Result<T> {
     if !open_traits::<T>(&mut opening)? {
         match parse_whole(tokens) {
             Ok(tree) => return Ok(tree),
-            Err(error) if error.is_memory() => return Err(error),
+            Err(error) if error.is_memory() || error.is_too_deep() => return Err(error),
             Err(_) => {}
         }
     }

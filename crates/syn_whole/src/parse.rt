@@ -8,7 +8,7 @@ use syn_tokens::error::Result;
 use syn_tokens::stream::TokenStream;
 
 /// Parses a whole stream as a `T`, and consumes it. Fails if the tokens are not a `T`, with a fault at an unexpected token; if
-/// tokens remain after a `T`, with `unexpected token` at the first of them; and if memory is refused.
+/// tokens remain after a `T`, with `unexpected token` at the first of them; if memory is refused; and if the nesting is too deep.
 ///
 /// An invisible group is parsed as an operand or a type, or as an absent visibility if it is empty. If that fails, the stream
 /// is parsed again with the contents of groups in place of the groups, at most 256 times, and once for each impl whose trait may be

@@ -1,5 +1,6 @@
 //! Why the program stops.
-ghost use Rattle.std.specs.Prelude.{◌≡◌, ◌⊎◌, ◌↔◌, []};
+ghost use Rattle.std.specs.Prelude.{◌≡◌, ◌⊎◌, ◌↔◌};
+ghost use Rattle.syn_tokens.specs.Faults.{IsMemoryError};
 ghost use Rattle.std.specs.IoError.{error_kind};
 ghost use Rattle.std.specs.declared.io.ErrorKind.TheVariants as E;
 ghost use Rattle.hex.specs.declared.error.FromHexError.TheVariants as H;
@@ -54,7 +55,7 @@ impl From<FromHexError> for Failure {
 }
 
 impl From<Error> for Failure {
-    ghost from_gives = { λ error f. (f ≡ OutOfMemory) ↔ (error ≡ []) };
+    ghost from_gives = { λ error f. (f ≡ OutOfMemory) ↔ IsMemoryError error };
 
     fn from(error: Error) -> Failure {
         if error.is_memory() {

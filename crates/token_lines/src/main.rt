@@ -9,7 +9,8 @@
 //! refused.
 #![tactic(auto)]
 
-ghost use Rattle.std.specs.Prelude.{◌≡◌, ◌⊎◌};
+ghost use Rattle.std.specs.Prelude.{◌≡◌, ◌⊎◌, ◌↔◌, OnOk, IfErr};
+ghost use Rattle.token_lines.specs.declared.failure.Failure.TheVariants.{OutOfMemory};
 
 mod failure;
 mod line;
@@ -20,17 +21,20 @@ use std::alloc::Global;
 use std::io::{self, BufReader, BufWriter, Read, Write};
 use std::process::ExitCode;
 
-/// Writes the line of each line of the input, in order, up to the first that is no text, and returns the exit status.
-pub fn run<R: Read + Drop, W: Write + Drop>(alloc: Global, input: R, output: W) -> u8
-    ensures known { (result ≡ 0) ⊎ ((result ≡ 1) ⊎ (result ≡ 3)) }
+/// The exit status: 0, or that of the failure.
+fn status(done: Result<(), Failure>) -> u8
+    ensures ok { OnOk done (result ≡ 0) }
+    ensures err { IfErr done (λ failure. (result ≡ 1) ⊎ (result ≡ 3)) }
+    ensures memory { IfErr done (λ failure. (result ≡ 3) ↔ (failure ≡ OutOfMemory)) }
 {
-    match answer(alloc, input, output) {
+    match done {
         Ok(()) => 0,
         Err(failure) => failure.status(),
     }
 }
 
-fn answer<R: Read + Drop, W: Write + Drop>(
+/// Writes the line of each line of the input, in order, up to the first that is no text.
+fn run<R: Read + Drop, W: Write + Drop>(
     alloc: Global,
     input: R,
     mut output: W,
@@ -47,7 +51,7 @@ fn answer<R: Read + Drop, W: Write + Drop>(
 
 fn main(rt: HostRuntime) -> ExitCode {
     let status = match BufWriter::new(rt.alloc(), rt.stdout()) {
-        Ok(output) => run(rt.alloc(), rt.stdin(), output),
+        Ok(output) => status(run(rt.alloc(), rt.stdin(), output)),
         Err(_) => 3,
     };
     ExitCode::from(status)

@@ -1,5 +1,6 @@
 //! Why the program ends without its lines.
-ghost use Rattle.std.specs.Prelude.{◌≡◌, ◌≢◌, ◌⊎◌, ◌↔◌, []};
+ghost use Rattle.std.specs.Prelude.{◌≡◌, ◌≢◌, ◌⊎◌, ◌↔◌};
+ghost use Rattle.syn_tokens.specs.Faults.{IsMemoryError};
 ghost use Rattle.std.specs.IoError.{error_kind};
 ghost use Rattle.token_stats.specs.declared.failure.Failure.TheVariants.{OutOfMemory, Refused};
 
@@ -69,7 +70,7 @@ impl fmt::Display for Failure {
 }
 
 impl From<Error> for Failure {
-    ghost from_gives = { λ error f. (error ≡ [] → f ≡ OutOfMemory) × (error ≢ [] → f ≡ Refused error) };
+    ghost from_gives = { λ error f. (IsMemoryError error → f ≡ OutOfMemory) × ((IsMemoryError error → ⊥) → f ≡ Refused error) };
 
     fn from(error: Error) -> Failure {
         if error.is_memory() {

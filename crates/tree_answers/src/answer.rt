@@ -78,7 +78,7 @@ impl Answer {
     }
 
     fn of_error(error: &Error) -> Answer {
-        if error.is_memory() {
+        if error.is_memory() || error.is_too_deep() {
             return Answer::Memory;
         }
         let start = error.span().start;

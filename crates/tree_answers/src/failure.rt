@@ -43,7 +43,7 @@ impl From<FromHexError> for Failure {
 
 impl From<Error> for Failure {
     fn from(error: Error) -> Failure {
-        if error.is_memory() {
+        if error.is_memory() || error.is_too_deep() {
             Failure::OutOfMemory
         } else {
             Failure::Broken

@@ -15,8 +15,8 @@
 //!
 //! Both have to answer the same, or to refuse the text at the same byte; the words may differ. Recognition has two such bytes: where
 //! it stops reading, and the one of which is told, as of the `self` of a receiver behind other parameters where reading stops at its
-//! `&`; trees may be refused at either. Trees refuse memory to what is nested too deep, and recognition doesn't: where memory is refused
-//! to one of them, that is counted, and nothing is compared.
+//! `&`; trees may be refused at either. Trees refuse what is nested too deep, and recognition doesn't: where one of them refuses this, or
+//! memory, that is counted, and nothing is compared.
 //!
 //! Each question whose answers differ is three lines on standard output, and at the end there stands what was counted. The
 //! status is 0; 1 where answers differ, where a line is no text in hex digits, or where the input can't be read or the output

@@ -1,4 +1,7 @@
 //! The context of a token, by the words before it. The stream is read up to there, so that they are what they look like.
+ghost use Rattle.std.specs.Prelude.{◌≡◌, ◌<◌, IsTrue};
+ghost use Rattle.syn_grammar.specs.Take.{left};
+
 use crate::faults::angles::Angles;
 use syn_recognize::Rule;
 use syn_tokens::delimiter::Delimiter;
@@ -51,17 +54,15 @@ pub(crate) fn place_at<'a>(byte: usize, rule: Rule, tokens: &'a TokenStream) -> 
         _ => Context::Other,
     };
     let mut place = Place::begins(context, tokens.cursor());
-    for _tree in 0..u64::MAX {
-        if !place.moves_to(byte) {
-            return place;
-        }
-    }
+    'trees: while place.moves_to(byte) {}
     place
 }
 
 impl<'a> Place<'a> {
     /// Where these trees begin.
-    fn begins(context: Context<'a>, trees: Cursor<'a>) -> Place<'a> {
+    fn begins(context: Context<'a>, trees: Cursor<'a>) -> Place<'a>
+        ensures { result.trees ≡ trees.entry }
+    {
         Place {
             context,
             before: Before::Other,
@@ -71,7 +72,10 @@ impl<'a> Place<'a> {
     }
 
     /// Passes or enters the next tree if that leads to the byte; returns false at the place.
-    fn moves_to(&mut self, byte: usize) -> bool {
+    #[tactic(auto, using(crate::proofs::Trees::fewer_after, crate::proofs::Trees::fewer_inside))]
+    fn moves_to(&mut self, byte: usize) -> bool
+        ensures { IsTrue result → left self.new.trees < left self.old.trees }
+    {
         let Some((tree, following)) = self.trees.split() else {
             return false;
         };
@@ -94,7 +98,9 @@ impl<'a> Place<'a> {
     }
 
     /// Goes into a group.
-    fn enter(&mut self, group: GroupRef<'a>) {
+    fn enter(&mut self, group: GroupRef<'a>)
+        ensures { self.new.trees ≡ group.entry.content }
+    {
         *self = Place::begins(self.context_in(&group), group.content);
     }
 
@@ -114,7 +120,9 @@ impl<'a> Place<'a> {
     }
 
     /// Passes a tree that these trees follow.
-    fn pass(&mut self, tree: &TokenTreeRef<'a>, following: Cursor<'a>) {
+    fn pass(&mut self, tree: &TokenTreeRef<'a>, following: Cursor<'a>)
+        ensures { self.new.trees ≡ following.entry }
+    {
         self.before = self.before_after(tree);
         self.angles.pass(tree);
         match tree {

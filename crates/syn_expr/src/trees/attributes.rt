@@ -77,6 +77,6 @@ fn join(attrs: Vec<Attribute>, own: &mut Vec<Attribute>) -> Parsed<()>
             *own = all;
             Ok(())
         }
-        Err(_) => Err(Refusal::Memory(None)),
+        Err(error) => Err(Refusal::from(error)),
     }
 }

@@ -98,7 +98,7 @@ fn field<N: Nested>(nested: &N, input: &mut ParseBuffer<'_>) -> Parsed<FieldValu
     ensures moved { Moved input.old result input.new }
 {
     let attrs = outer_attributes(input)?;
-    if at_integer(input)? {
+    if at_integer(input) {
         numbered(attrs, nested, input)
     } else {
         named(attrs, nested, input)

@@ -63,7 +63,7 @@ fn no_literal<N: Nested>(
     ensures reads { Computes IsSyntax (λ e. N.Trees.expr_syntax e.value) (primaries.no_literal spot input.old) result input.new }
     ensures moved { Moved input.old result input.new }
 {
-    if at_macro(input)? {
+    if at_macro(input) {
         in_macro::<N>(input)
     } else if input.peek::<Paren>() {
         parenthesized(nested, input)

@@ -39,10 +39,9 @@ pub fn expression_within<N: Nested>(
     requires { MayBelow N.may nested.now input.old }
     ensures parses { Parses IsSyntax (λ e. Node (N.Trees.expr_syntax e.value)) (rule_of rung) input.old result input.new }
 {
-    let outside = input.stack_left();
-    input.set_stack_left(kib);
-    let answer = expression(nested, rung, input);
-    input.set_stack_left(outside);
+    let mut inside = input.with_stack_left(kib);
+    let answer = expression(nested, rung, &mut inside);
+    input.advance_to(&inside);
     answer
 }
 
@@ -55,9 +54,8 @@ pub fn statements_within<N: Nested>(
     requires { MayHere N.may nested.now input.old }
     ensures parses { MayParse IsSyntax (λ v. statements_of N.Trees.stmt_syntax v.items) rules.statements input.old result input.new }
 {
-    let outside = input.stack_left();
-    input.set_stack_left(kib);
-    let answer = statements(nested, input);
-    input.set_stack_left(outside);
+    let mut inside = input.with_stack_left(kib);
+    let answer = statements(nested, &mut inside);
+    input.advance_to(&inside);
     answer
 }

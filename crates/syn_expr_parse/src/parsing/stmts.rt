@@ -99,7 +99,7 @@ fn statement_in<N: Nested>(place: Place, nested: &N, input: &mut ParseBuffer<'_>
 fn at_item_statement(place: Place, input: &ParseBuffer<'_>) -> Parsed<bool>
     ensures { OrMemory IsSyntax result (λ b. b ≡ item_next (is_listed place) input.now) }
 {
-    if at_item(input)? {
+    if at_item(input) {
         return Ok(true);
     }
     match place {
@@ -119,7 +119,8 @@ fn at_crate_item(input: &ParseBuffer<'_>) -> Parsed<bool>
     let mut following = input.fork();
     match macro_invocation(&mut following) {
         Ok(_) => Ok(at_postfix_mark(&following)),
-        Err(Refusal::Memory(at)) => Err(Refusal::Memory(at)),
+        Err(Refusal::Memory(error)) => Err(Refusal::Memory(error)),
+        Err(Refusal::TooDeep(span)) => Err(Refusal::TooDeep(span)),
         Err(Refusal::Syntax { .. }) => Ok(false),
     }
 }
@@ -146,7 +147,7 @@ fn statement_after<N: Nested>(
 {
     if at_crate_macro(input) {
         crate_macro_statement(place, attrs, nested, input)
-    } else if at_brace_macro(input)? {
+    } else if at_brace_macro(input) {
         macro_statement(place, attrs, nested, input)
     } else if input.peek::<Let>() {
         local(attrs, nested, input)

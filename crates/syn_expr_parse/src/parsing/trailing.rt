@@ -19,7 +19,7 @@ pub(super) fn has_trailing_brace<'a>(start: &ParseBuffer<'a>, end: &ParseBuffer<
 {
     match start.between(end) {
         Ok(tokens) => Ok(ends_with_braces(&tokens)),
-        Err(_) => Err(Refusal::Memory(None)),
+        Err(error) => Err(Refusal::Memory(error.into_alloc_error())),
     }
 }
 

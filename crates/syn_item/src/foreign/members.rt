@@ -4,7 +4,6 @@ ghost use Rattle.syn_grammar.specs.Rules as rules;
 ghost use Rattle.syn_grammar.specs.Forms.{punctuation};
 ghost use Rattle.syn_grammar.specs.Grammar.{Both, Nothing, Unshown};
 ghost use Rattle.syn_grammar.specs.Plan.{run_plan};
-ghost use Rattle.syn_grammar.specs.Promises.{OrMemory};
 ghost use Rattle.syn_grammar.specs.Run.{wrap};
 ghost use Rattle.syn_grammar.specs.Take.{sees};
 ghost use Rattle.syn_grammar.specs.Tokens.{Stream, at_empty_group, at_word, or};
@@ -78,7 +77,7 @@ fn foreign_item_after(
     if at_static(input) {
         return foreign_static(attrs, vis, input);
     }
-    if at_foreign_function(is_marked, input)? {
+    if at_foreign_function(is_marked, input) {
         return foreign_function(attrs, vis, input);
     }
     if is_marked {
@@ -109,19 +108,17 @@ fn at_static(input: &ParseBuffer<'_>) -> bool
 }
 
 /// Whether a word of a foreign signature is next. Where no visibility is before it (`is_marked`), `safe` may also begin a path.
-fn at_foreign_function(is_marked: bool, input: &ParseBuffer<'_>) -> Parsed<bool>
-    ensures { OrMemory IsSyntax result (λ answer. answer ≡ foreign_function_next is_marked input.now) }
+fn at_foreign_function(is_marked: bool, input: &ParseBuffer<'_>) -> bool
+    ensures { result ≡ foreign_function_next is_marked input.now }
 {
     if input.peek::<Safe>() {
-        return Ok(is_marked || !(is_before_macro(input)? || is_before_colons(input)));
+        return is_marked || !(is_before_macro(input) || is_before_colons(input));
     }
-    Ok(
-        input.peek::<Unsafe>()
-            || input.peek::<Const>()
-            || input.peek::<Async>()
-            || input.peek::<Extern>()
-            || input.peek::<Fn>(),
-    )
+    input.peek::<Unsafe>()
+        || input.peek::<Const>()
+        || input.peek::<Async>()
+        || input.peek::<Extern>()
+        || input.peek::<Fn>()
 }
 
 /// A foreign function, after its visibility; `None` where it is kept verbatim: with a body.

@@ -4,7 +4,6 @@ ghost use Rattle.syn_grammar.specs.Rules as rules;
 ghost use Rattle.syn_grammar.specs.Grammar.{Both};
 ghost use Rattle.syn_grammar.specs.MemberPlans as plan;
 ghost use Rattle.syn_grammar.specs.Plan.{run_plan};
-ghost use Rattle.syn_grammar.specs.Promises.{OrMemory};
 ghost use Rattle.syn_grammar.specs.Run.{wrap};
 ghost use Rattle.syn_grammar.specs.Tokens.{Stream};
 ghost use Rattle.syn_lower.specs.Attributes.{all_attributes_syntax, attributes_syntax};
@@ -85,7 +84,7 @@ fn impl_item_after(attrs: Vec<Attribute>, input: &mut ParseBuffer<'_>) -> Parsed
     requires outer { all_attributes_syntax attrs.items ≡ attributes_syntax attrs.items }
     ensures follows { (ts : Stream) → Follows IsSyntax syntax_of_ImplItem rules.kept_impl_item ts (run_plan (impl_item_plan_after (attributes_syntax attrs.items)) rules.kept_impl_item ts input.old) result input.new }
 {
-    if at_impl_macro(input)? {
+    if at_impl_macro(input) {
         if at_no_macro_item(input) {
             return Err(input.refusal("unexpected token"));
         }
@@ -103,16 +102,16 @@ fn impl_item_after(attrs: Vec<Attribute>, input: &mut ParseBuffer<'_>) -> Parsed
 
 /// Whether a member of an impl is a macro: where it begins neither with a visibility nor with `default`, but for a macro of that name, and
 /// no word of another member is next.
-fn at_impl_macro(input: &ParseBuffer<'_>) -> Parsed<bool>
-    ensures { OrMemory IsSyntax result (λ answer. answer ≡ impl_macro_next input.now) }
+fn at_impl_macro(input: &ParseBuffer<'_>) -> bool
+    ensures { result ≡ impl_macro_next input.now }
 {
     if input.peek::<Pub>() || at_empty_group(input) {
-        return Ok(false);
+        return false;
     }
     if input.peek::<Default>() {
         return is_before_macro(input);
     }
-    Ok(!(input.peek::<token::Type>() || input.peek::<Const>() || at_function(input)))
+    !(input.peek::<token::Type>() || input.peek::<Const>() || at_function(input))
 }
 
 /// A member of an impl that is no macro, after its `default`; `None` where it is kept verbatim.

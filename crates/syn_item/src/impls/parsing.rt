@@ -113,7 +113,8 @@ fn reported(refusal: Refusal, is_odd: bool, first: Span) -> Refusal
         return refusal;
     }
     match refusal {
-        Refusal::Memory(at) => Refusal::Memory(at),
+        Refusal::Memory(error) => Refusal::Memory(error),
+        Refusal::TooDeep(span) => Refusal::TooDeep(span),
         Refusal::Syntax { span: _, text: _ } => Refusal::Syntax {
             span: first,
             text: "expected trait path",
@@ -203,7 +204,8 @@ fn for_after_bang(bang_token: Not, input: &mut ParseBuffer<'_>) -> Parsed<For>
 {
     match input.read() {
         Ok(for_token) => Ok(for_token),
-        Err(Refusal::Memory(at)) => Err(Refusal::Memory(at)),
+        Err(Refusal::Memory(error)) => Err(Refusal::Memory(error)),
+        Err(Refusal::TooDeep(span)) => Err(Refusal::TooDeep(span)),
         Err(Refusal::Syntax { span: _, text: _ }) => Err(Refusal::Syntax {
             span: bang_token.spans[0],
             text: "inherent impls cannot be negative",

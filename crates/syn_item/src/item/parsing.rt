@@ -2,7 +2,6 @@
 ghost use Rattle.std.specs.Prelude.{◌≡◌};
 ghost use Rattle.syn_grammar.specs.ItemPlan as plan;
 ghost use Rattle.syn_grammar.specs.Plan.{run_plan};
-ghost use Rattle.syn_grammar.specs.Promises.{OrMemory};
 ghost use Rattle.syn_grammar.specs.Rules as rules;
 ghost use Rattle.syn_grammar.specs.Take.{sees};
 ghost use Rattle.syn_grammar.specs.Tokens.{Stream, at_word, ◌or_else◌};
@@ -204,14 +203,11 @@ fn at_function_word(input: &ParseBuffer<'_>) -> bool
     input.peek::<Fn>() || input.peek::<Async>()
 }
 
-/// Whether `default` is next, and no macro of that name. Refused only where memory is.
-fn at_default_impl(input: &ParseBuffer<'_>) -> Parsed<bool>
-    ensures { OrMemory IsSyntax result (λ answer. answer ≡ default_next input.now) }
+/// Whether `default` is next, and no macro of that name.
+fn at_default_impl(input: &ParseBuffer<'_>) -> bool
+    ensures { result ≡ default_next input.now }
 {
-    if !input.peek::<Default>() {
-        return Ok(false);
-    }
-    Ok(!is_before_macro(input)?)
+    input.peek::<Default>() && !is_before_macro(input)
 }
 
 /// What else is allowed without a visibility: an impl after `default`, or a macro.
@@ -223,7 +219,7 @@ fn without_keyword(begun: Begun, input: &mut ParseBuffer<'_>) -> Parsed<Option<I
     if !begun.is_plain() {
         return Err(input.refusal("unexpected token"));
     }
-    if at_default_impl(input)? {
+    if at_default_impl(input) {
         return default_impl(begun, input);
     }
     let item = macro_as_item_rest(begun.attrs, input)?;

@@ -176,7 +176,7 @@ fn string(input: &mut ParseBuffer<'_>) -> Parsed<Option<Literal>>
     ensures reads { Computes IsSyntax (maybe syntax_of_literal) (parse_form string_form input.old) result input.new }
     ensures kept { Kept input.old result input.new }
 {
-    if at_str(input)? {
+    if at_str(input) {
         Ok(Some(input.read()?))
     } else {
         Ok(None)

@@ -118,7 +118,8 @@ fn braced(input: &mut ParseBuffer<'_>) -> Parsed<UseTree>
             input.advance_to(&ahead);
             Ok(tree)
         }
-        Err(Refusal::Memory(at)) => Err(Refusal::Memory(at)),
+        Err(Refusal::Memory(error)) => Err(Refusal::Memory(error)),
+        Err(Refusal::TooDeep(span)) => Err(Refusal::TooDeep(span)),
         Err(Refusal::Syntax { span: _, text: _ }) => Err(fault_in_braces(input)),
     }
 }
@@ -142,7 +143,7 @@ fn rooted_group(input: &mut ParseBuffer<'_>) -> Parsed<()> {
 #[cycle(rooted_trees)]
 fn rooted_trees(input: &mut ParseBuffer<'_>, inside: u32) -> Parsed<()> {
     let Some(left) = inside.checked_sub(USE_TREE) else {
-        return Err(Refusal::Memory(Some(input.span())));
+        return Err(Refusal::TooDeep(input.span()));
     };
     'trees: while !input.is_empty() {
         if input.peek::<Brace>() {
@@ -270,7 +271,8 @@ fn other_name(input: &mut ParseBuffer<'_>) -> Parsed<Ident>
 {
     match name_or::<OrUnderscore>(input) {
         Ok(ident) => Ok(ident),
-        Err(Refusal::Memory(at)) => Err(Refusal::Memory(at)),
+        Err(Refusal::Memory(error)) => Err(Refusal::Memory(error)),
+        Err(Refusal::TooDeep(span)) => Err(Refusal::TooDeep(span)),
         Err(Refusal::Syntax { span, text: _ }) => Err(Refusal::Syntax {
             span,
             text: "expected identifier or underscore",
@@ -311,7 +313,7 @@ fn nested_tree<E: Carrier>(
     ensures parses { Parses E.is_syntax syntax_of_UseTree rules.use_tree input.old result input.new }
 {
     let Some(left) = inside.0.checked_sub(USE_TREE) else {
-        return Err(E::carry(Refusal::Memory(Some(input.span()))));
+        return Err(E::carry(Refusal::TooDeep(input.span())));
     };
     let knot = Knot {
         tree: nested_tree::<E>,

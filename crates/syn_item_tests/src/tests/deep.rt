@@ -10,7 +10,7 @@ use syn_tokens::error::Error;
 fn repeated(rt: &impl Abort, alloc: Global, text: &str, count: usize) -> String {
     let mut all = String::new(alloc);
     for _ in 0..count {
-        value(rt, all.push_str(text).map_err(|_| Error::memory()));
+        value(rt, all.push_str(text).map_err(Error::from));
     }
     all
 }
@@ -19,7 +19,7 @@ fn repeated(rt: &impl Abort, alloc: Global, text: &str, count: usize) -> String 
 fn around(rt: &impl Abort, alloc: Global, open: &str, content: &str, close: &str) -> String {
     let mut text = String::new(alloc);
     for part in [open, content, close] {
-        value(rt, text.push_str(part).map_err(|_| Error::memory()));
+        value(rt, text.push_str(part).map_err(Error::from));
     }
     text
 }

@@ -41,7 +41,7 @@ fn items(rt: &impl Abort, alloc: Global) -> Vec<Item> {
         Item::Macro(invocation(rt, alloc)),
         Item::Verbatim(tokens(rt, alloc, "fn f();")),
     ] {
-        value(rt, items.push(item).map_err(|_| Error::memory()));
+        value(rt, items.push(item).map_err(Error::from));
     }
     items
 }
@@ -59,7 +59,7 @@ fn file(rt: &impl Abort, alloc: Global, shebang: Option<String>) -> File {
 /// A first line of this text.
 fn line(rt: &impl Abort, alloc: Global, text: &str) -> Option<String> {
     let mut line = String::new(alloc);
-    value(rt, line.push_str(text).map_err(|_| Error::memory()));
+    value(rt, line.push_str(text).map_err(Error::from));
     Some(line)
 }
 

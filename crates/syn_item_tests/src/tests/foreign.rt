@@ -55,7 +55,7 @@ fn members(rt: &impl Abort, alloc: Global) -> Vec<ForeignItem> {
         ForeignItem::Ty(alias),
         ForeignItem::Macro(mac),
     ] {
-        value(rt, items.push(item).map_err(|_| Error::memory()));
+        value(rt, items.push(item).map_err(Error::from));
     }
     items
 }

@@ -77,7 +77,7 @@ fn members(rt: &impl Abort, alloc: Global) -> Vec<ImplItem> {
         ImplItem::Fn(function),
         ImplItem::Ty(alias),
     ] {
-        value(rt, items.push(item).map_err(|_| Error::memory()));
+        value(rt, items.push(item).map_err(Error::from));
     }
     items
 }

@@ -264,6 +264,6 @@ fn deep_uses(rt: HostRuntime) {
     let answer: Result<UseTree> = parse2(tokens(&rt, alloc, longer.as_str()));
     let start = (STACK / USE_TREE) as usize * "a::".len();
     assert!(rt;
-        matches!(answer, Err(error) if error.is_memory() && error.is_too_deep() && error.span().start == start)
+        matches!(answer, Err(error) if error.is_too_deep() && !error.is_memory() && error.span().start == start)
     );
 }

@@ -49,7 +49,7 @@ fn reference(rt: &impl Abort, alloc: Global) -> ReceiverKind {
 fn one_input(rt: &impl Abort, alloc: Global) -> Punctuated<FnArg, Comma> {
     let mut inputs = Punctuated::new(alloc);
     let pushed = inputs.push_value(typed(rt, alloc, "a", "u8"));
-    value(rt, pushed.map_err(|_| Error::memory()));
+    value(rt, pushed.map_err(Error::from));
     inputs
 }
 

@@ -176,7 +176,7 @@ fn trait_aliases(rt: HostRuntime) {
     let alloc = rt.alloc();
     let mut bounds = Punctuated::new(alloc);
     let pushed = bounds.push_value(part(&rt, alloc, "B<T>"));
-    value(&rt, pushed.map_err(|_| Error::memory()));
+    value(&rt, pushed.map_err(Error::from));
     let alias = ItemTraitAlias {
         attrs: Vec::new(alloc),
         vis: part(&rt, alloc, ""),

@@ -45,7 +45,7 @@ pub fn attributes(rt: &impl Abort, alloc: Global, outer: &str, inner: &str) -> V
     let (outer, inner) = (tokens(rt, alloc, outer), tokens(rt, alloc, inner));
     let mut attrs = value(rt, Attribute::parse_outer(&mut ParseBuffer::new(&outer)));
     for attr in value(rt, Attribute::parse_inner(&mut ParseBuffer::new(&inner))) {
-        value(rt, attrs.push(attr).map_err(|_| Error::memory()));
+        value(rt, attrs.push(attr).map_err(Error::from));
     }
     attrs
 }

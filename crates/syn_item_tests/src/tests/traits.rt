@@ -19,7 +19,7 @@ use syn_tree::item::{ConstModifiers, FnModifiers, TraitModifiers, TypeModifiers}
 fn one_bound(rt: &impl Abort, alloc: Global, text: &str) -> Punctuated<TypeParamBound, Plus> {
     let mut bounds = Punctuated::new(alloc);
     let pushed = bounds.push_value(part(rt, alloc, text));
-    value(rt, pushed.map_err(|_| Error::memory()));
+    value(rt, pushed.map_err(Error::from));
     bounds
 }
 
@@ -113,7 +113,7 @@ fn members(rt: &impl Abort, alloc: Global) -> Vec<TraitItem> {
         TraitItem::Macro(mac),
         TraitItem::Verbatim(tokens(rt, alloc, "pub fn g();")),
     ] {
-        value(rt, items.push(item).map_err(|_| Error::memory()));
+        value(rt, items.push(item).map_err(Error::from));
     }
     items
 }

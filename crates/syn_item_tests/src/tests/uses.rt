@@ -26,7 +26,7 @@ fn renamed(rt: &impl Abort, alloc: Global, from: &str, to: &str) -> UseTree {
 
 /// A word, and a tree after it.
 fn path(rt: &impl Abort, alloc: Global, text: &str, tree: UseTree) -> UseTree {
-    let boxed = Box::new(alloc, tree).map_err(|_| Error::memory());
+    let boxed = Box::new(alloc, tree).map_err(Error::from);
     UseTree::Path(UsePath {
         ident: name(rt, alloc, text),
         colon2_token: part(rt, alloc, "::"),
@@ -38,9 +38,9 @@ fn path(rt: &impl Abort, alloc: Global, text: &str, tree: UseTree) -> UseTree {
 fn group(rt: &impl Abort, alloc: Global, first: UseTree, second: UseTree) -> UseTree {
     let mut items = Punctuated::new(alloc);
     let pushed = items.push_pair(first, part(rt, alloc, ","));
-    value(rt, pushed.map_err(|_| Error::memory()));
+    value(rt, pushed.map_err(Error::from));
     let pushed = items.push_value(second);
-    value(rt, pushed.map_err(|_| Error::memory()));
+    value(rt, pushed.map_err(Error::from));
     UseTree::Group(UseGroup {
         brace_token: braces(),
         items,

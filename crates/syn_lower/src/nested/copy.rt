@@ -53,6 +53,6 @@ pub fn copied<T: TryClone>(value: &T, alloc: Global) -> Result<T, AllocError>
 {
     match value.try_clone(alloc) {
         Ok(copy) => Ok(copy),
-        Err(_memory) => Err(AllocError),
+        Err(error) => Err(error.into_alloc_error()),
     }
 }

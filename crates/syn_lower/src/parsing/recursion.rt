@@ -54,7 +54,7 @@ fn nested_type<E: Carrier>(
     ensures parses { Parses E.is_syntax syntax_of_Type rules.type input.old result input.new }
 {
     let Some(left) = inside.0.checked_sub(TYPE) else {
-        return Err(E::carry(Refusal::Memory(Some(input.span()))));
+        return Err(E::carry(Refusal::TooDeep(input.span())));
     };
     let knot = Knot {
         ty: nested_type::<E>,

@@ -1,7 +1,8 @@
 //! Copies of parsed and of remaining tokens.
-ghost use Rattle.std.specs.Prelude.{◌≡◌, [], IfOk, IfErr, OnOk, OnErr};
+ghost use Rattle.std.specs.Prelude.{◌≡◌, IfOk, IfErr, OnOk, OnErr};
 ghost use Rattle.syn_grammar.specs.Tokens.{end};
 ghost use Rattle.syn_grammar.specs.Take.{before};
+ghost use Rattle.syn_tokens.specs.Faults.{out_of_memory};
 
 use crate::buffer::ParseBuffer;
 use syn_tokens::error::Result;
@@ -14,7 +15,7 @@ impl<'a> ParseBuffer<'a> {
     #[tactic(auto, unfolding(syn_grammar::specs::Take::before))]
     pub fn between(&self, end: &ParseBuffer<'a>) -> Result<TokenStream>
         ensures ok { IfOk result (λ copy. copy ≡ before self.now end.now) }
-        ensures err { IfErr result (λ e. e ≡ []) }
+        ensures err { IfErr result (λ e. e ≡ out_of_memory) }
     {
         let count = self.tokens.len().saturating_sub(end.tokens.len());
         Ok(self.tokens.first_to_stream(count, self.alloc)?)
@@ -25,7 +26,7 @@ impl<'a> ParseBuffer<'a> {
         ensures copy { IfOk result (λ copy. copy ≡ self.old) }
         ensures ok { OnOk result (self.new ≡ end) }
         ensures err { OnErr result (self.new ≡ self.old) }
-        ensures memory { IfErr result (λ e. e ≡ []) }
+        ensures memory { IfErr result (λ e. e ≡ out_of_memory) }
     {
         let copy = self.tokens.to_stream(self.alloc)?;
         self.tokens = Cursor::none();

@@ -15,8 +15,8 @@ use syn_tokens::error::{Error, Result};
 use syn_tokens::token::{Brace, Bracket, Paren, kind};
 
 impl<'a> ParseBuffer<'a> {
-    /// Parses a `T`. Fails if the tokens are not a `T`, with a fault at an unexpected token, and if memory is refused; then the
-    /// buffer keeps its position.
+    /// Parses a `T`. Fails if the tokens are not a `T`, with a fault at an unexpected token; if memory is refused; and if the
+    /// nesting is too deep. Then the buffer keeps its position.
     pub fn parse<T: Parse>(&mut self) -> Result<T>
         ensures outcome { Outcome IsSyntaxError T.syntax T.form self.old result self.new }
         ensures reads { Computes IsSyntaxError T.syntax (forms.parse T.form self.old) result self.new }

@@ -49,8 +49,8 @@ impl<K: CustomPunctuationKind<3>> Separator for CustomPunctuation<K, 3> {
 
 impl<'a> ParseBuffer<'a> {
     /// Parses elements `T` with separators `P` between them, up to the end of the buffer; the list may be empty, and the
-    /// trailing separator is optional. Fails if an element or a separator is missing, with the fault of `T` or `P`, and if
-    /// memory is refused; then the buffer keeps its position.
+    /// trailing separator is optional. Fails if an element or a separator is missing, with the fault of `T` or `P`; if memory is
+    /// refused; and if the nesting is too deep. Then the buffer keeps its position.
     pub fn parse_terminated<T: Parse + Drop, P: Separator + Drop>(
         &mut self,
     ) -> Result<Punctuated<T, P>>

@@ -1,5 +1,5 @@
 //! The errors of internal parsers.
-ghost use Rattle.std.specs.Prelude.{◌≡◌, None};
+ghost use Rattle.std.specs.Prelude.{◌≡◌, alloc_error};
 ghost use Rattle.syn_parse.specs.Refusals.{IsRefusedAs};
 ghost use Rattle.syn_parse.specs.declared.read.refusal.Refusal.TheVariants.{Memory};
 
@@ -10,8 +10,10 @@ use syn_tokens::span::Span;
 /// Why a parser failed; smaller than an `Error`, which has room for four faults.
 #[derive(Clone, Copy, Debug)]
 pub enum Refusal {
-    /// Memory was refused; if the nesting is too deep for the stack, with the first token that is too deep.
-    Memory(Option<Span>),
+    /// The allocator refused memory with this error.
+    Memory(AllocError),
+    /// The nesting is too deep for the stack, from this token on. Only parsers of trees return it.
+    TooDeep(Span),
     /// The tokens don't match: the span, and the message, such as ``expected `struct` ``.
     Syntax { span: Span, text: &'static str },
 }
@@ -20,18 +22,18 @@ pub enum Refusal {
 pub type Parsed<T> = std::result::Result<T, Refusal>;
 
 impl From<AllocError> for Refusal {
-    ghost from_gives = { λ _ e. e ≡ Memory None };
+    ghost from_gives = { λ e refusal. refusal ≡ Memory e };
 
-    fn from(_e: AllocError) -> Refusal {
-        Refusal::Memory(None)
+    fn from(error: AllocError) -> Refusal {
+        Refusal::Memory(error)
     }
 }
 
 impl<T: Drop> From<AllocFailed<T>> for Refusal {
-    ghost from_gives = { λ _ e. e ≡ Memory None };
+    ghost from_gives = { λ _ refusal. refusal ≡ Memory alloc_error };
 
-    fn from(_e: AllocFailed<T>) -> Refusal {
-        Refusal::Memory(None)
+    fn from(failed: AllocFailed<T>) -> Refusal {
+        Refusal::Memory(AllocError::from(failed))
     }
 }
 
@@ -40,8 +42,8 @@ impl From<Refusal> for Error {
 
     fn from(refusal: Refusal) -> Error {
         match refusal {
-            Refusal::Memory(None) => Error::memory(),
-            Refusal::Memory(Some(span)) => Error::too_deep(span),
+            Refusal::Memory(error) => Error::from(error),
+            Refusal::TooDeep(span) => Error::too_deep(span),
             Refusal::Syntax { span, text } => Error::new(span, text),
         }
     }

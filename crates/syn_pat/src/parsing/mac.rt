@@ -94,6 +94,6 @@ fn all_left(input: &mut ParseBuffer<'_>) -> Parsed<TokenStream>
 {
     match input.rest() {
         Ok(tokens) => Ok(tokens),
-        Err(_) => Err(Refusal::Memory(None)),
+        Err(error) => Err(Refusal::Memory(error.into_alloc_error())),
     }
 }

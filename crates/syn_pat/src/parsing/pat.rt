@@ -65,10 +65,9 @@ fn pattern_within<N: NestedPat>(kib: u32, nested: &N, input: &mut ParseBuffer<'_
     requires { MayBelow N.may nested.now input.old }
     ensures parses { Parses IsSyntax syntax_of_Pat rules.pattern input.old result input.new }
 {
-    let outside = input.stack_left();
-    input.set_stack_left(kib);
-    let answer = pattern(nested, input);
-    input.set_stack_left(outside);
+    let mut inside = input.with_stack_left(kib);
+    let answer = pattern(nested, &mut inside);
+    input.advance_to(&inside);
     answer
 }
 
@@ -200,7 +199,7 @@ fn nested_pattern<E: Carrier>(
     ensures parses { Parses E.is_syntax syntax_of_Pat rules.pattern input.old result input.new }
 {
     let Some(left) = inside.0.checked_sub(PATTERN) else {
-        return Err(E::carry(Refusal::Memory(Some(input.span()))));
+        return Err(E::carry(Refusal::TooDeep(input.span())));
     };
     let knot = Knot {
         pat: nested_pattern::<E>,

@@ -7,6 +7,7 @@ ghost use Rattle.syn_tokens.specs.Punct.{is_joint};
 ghost use Rattle.syn_reader.specs.Spelling.{opening_delimiter, closing_delimiter};
 ghost use Rattle.syn_reader.specs.Texts.{gap, text_of};
 ghost use Rattle.syn_reader.specs.EntryTexts.{entry_text, direct_after};
+ghost use Rattle.syn_tokens.specs.Faults.{out_of_memory};
 
 use std::alloc::AllocError;
 use syn_tokens::delimiter::Delimiter;
@@ -20,7 +21,7 @@ use syn_tokens::stream::entry::{Entry, Token};
 #[tactic(auto, using(crate::proofs::WrittenEntries::whole_text, crate::proofs::WrittenEntries::next_entry, crate::proofs::WrittenEntries::no_entry))]
 pub fn token_text(tokens: &TokenStream) -> Result<String>
     ensures text { IfOk result (λ text. string_bytes text ≡ text_of tokens.now) }
-    ensures memory { IfErr result (λ e. e ≡ []) }
+    ensures memory { IfErr result (λ e. e ≡ out_of_memory) }
 {
     let mut writer = Writer {
         text: String::new(tokens.alloc()),

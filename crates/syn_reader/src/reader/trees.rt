@@ -9,6 +9,7 @@ ghost use Rattle.syn_tokens.specs.Delimiters.{delimiter_of};
 ghost use Rattle.syn_reader.specs.Flat.{opened, closed, punctuation, flat};
 ghost use Rattle.syn_reader.specs.Spelling.{IsFaultWithin, doc_tokens};
 ghost use Rattle.syn_reader.specs.Refusals.{IsRefusal};
+ghost use Rattle.syn_tokens.specs.Faults.{out_of_memory};
 
 use crate::reader::docs::{Doc, doc_of, quoted};
 use crate::reader::ident_cache::IdentCache;
@@ -107,7 +108,7 @@ impl TreeBuilder {
     fn doc(&mut self, doc: &Doc<'_>, span: Span) -> Result<()>
         ensures tokens { IfOk result (λ _. tokens_so_far self.new ≡ tokens_so_far self.old ++ doc_tokens doc.now.inner doc.now.text.now (at span)) }
         ensures within { (n : ℕ) → AllWithin n self.old.inner.open_groups → span.start < span.end → span.end ≤ n → MatchResult result (λ _. AllWithin n self.new.inner.open_groups) (IsFaultWithin n) }
-        ensures memory { IfErr result (λ e. e ≡ []) }
+        ensures memory { IfErr result (λ e. e ≡ out_of_memory) }
     {
         let alloc = self.inner.alloc();
         self.attribute_punct(doc.inner, span)?;

@@ -1,11 +1,11 @@
 //! Blocks whose statements are stored as their tokens.
-ghost use Rattle.std.specs.Prelude.{◌≡◌, ◌↔◌, [], IfOk, IfErr, IsTrue};
+ghost use Rattle.std.specs.Prelude.{◌≡◌, ◌↔◌, [], IfOk, IsTrue};
 ghost use Rattle.syn_grammar.specs.Tokens.{end};
 ghost use Rattle.syn_grammar.specs.Rules as rules;
 ghost use Rattle.syn_grammar.specs.Grammar.{rule, print, plain_syntax};
 ghost use Rattle.syn_grammar.specs.Run.{parse_rule};
 ghost use Rattle.syn_grammar.specs.Same.{same_syntax};
-ghost use Rattle.syn_grammar.specs.Promises.{Computes, itself};
+ghost use Rattle.syn_grammar.specs.Promises.{Computes, Never, itself};
 ghost use Rattle.syn_parse.specs.Form.{of};
 ghost use Rattle.syn_parse.specs.Meanings.{meaning_of_rule};
 ghost use Rattle.syn_parse.specs.Refusals.{IsSyntax};
@@ -68,7 +68,7 @@ impl DeferredBlock {
     /// this nesting depth.
     pub fn open<B: BlockOf>(&self) -> Result<B>
         ensures ok { IfOk result (λ block. B.syntax block ≡ self.now) }
-        ensures memory { IfErr result (λ e. e ≡ []) }
+        ensures no_fault { Never IsSyntaxError result }
     {
         let mut input = ParseBuffer::new(self.stmts.source());
         Ok(B::read_statements(self.brace_token, &mut input)?)

@@ -20,9 +20,9 @@ pub fn value<T, E: Debug>(rt: &impl Abort, answer: Result<T, E>) -> T {
 /// Where the result is refused as nested too deep. Any other result fails the test, and where it is refused it is shown.
 pub fn too_deep_at<T: Drop>(rt: &impl Abort, answer: Result<T, Error>) -> Span {
     match answer {
-        Ok(_value) => panic!(rt; "not refused as nested too deep"),
+        Ok(_value) => panic!(rt; "not refused as nested too deeply"),
         Err(error) => {
-            if error.is_memory() && error.is_too_deep() {
+            if error.is_too_deep() && !error.is_memory() {
                 return error.span();
             }
             value(rt, Err(error))

@@ -163,7 +163,7 @@ const CALL: &str = "{ f::<A, 'a>(b) }";
 
 const CALL_PRINTED: &str = "{ f :: < 'a , A , > ( b ) }";
 
-/// Its print has lifetimes first, so it is read twice, and kept twice.
+/// Its print has lifetimes first, so it is kept twice.
 fn is_deferred(alloc: Global) -> Result<bool> {
     let deferred: DeferredConstant = parsed(alloc, CALL)?;
     let copy = deferred.try_clone(alloc)?;

@@ -1,5 +1,5 @@
 //! Building token streams, one token or delimiter after another.
-ghost use Rattle.std.specs.Prelude.{◌≡◌, ◌<◌, IsTrue, List, [], ◌∷◌, ◌++◌, true, length, slice_set, IfErr, OnOk, OnErr, MatchResult, IfOk};
+ghost use Rattle.std.specs.Prelude.{◌≡◌, ◌<◌, IsTrue, List, [], ◌∷◌, ◌++◌, true, length, slice_set, IfErr, OnOk, OnErr, MatchResult, IfOk, take};
 ghost use Rattle.syn_grammar.specs.Tokens.{end, ident, leaf, punct, ◌⧺◌};
 ghost use Rattle.syn_tokens.specs.Entries.{decode, IsToken};
 ghost use Rattle.syn_tokens.specs.Spans.{at};
@@ -15,10 +15,10 @@ use crate::literal::Literal;
 use crate::punct::{Punct, Spacing};
 use crate::span::Span;
 use crate::stream::TokenStream;
-use crate::stream::copies::append_copies;
 use crate::stream::entry::{Close, Entry, Open};
 use crate::stream::words::Words;
 use std::alloc::{AllocError, Global};
+use std::collections::VecDeque;
 use std::marker::Model;
 
 /// A group that is not closed yet.
@@ -43,7 +43,8 @@ struct Mark {
 /// call doesn't depend on the depth. It may begin with a stream, which `undo` restores.
 #[derive(Drop)]
 pub struct StreamBuilder {
-    entries: Vec<Entry>,
+    /// A queue: entries are put before others in the time of their own number.
+    entries: VecDeque<Entry>,
     mark: Mark,
     /// From the outermost to the innermost.
     pending: Vec<Pending>,
@@ -67,9 +68,72 @@ impl Model for StreamBuilder {
     ghost invariant = { λ b. IsBuilt b.entries.items b.pending.items b.trees × IsBegun b.mark.entries b.mark.trees b.entries.items };
 }
 
+/// Appends copies of these entries to others; if memory is refused, some of them may have been added.
+fn push_copies(
+    following: &mut VecDeque<Entry>,
+    entries: &[Entry],
+) -> std::result::Result<(), AllocError>
+    ensures ok { OnOk result (following.new.items ≡ following.old.items ++ entries.now) }
+    ensures kept { take (length following.old.items) following.new.items ≡ following.old.items }
+{
+    for entry in entries {
+        following.push_back(entry.copy()?)?;
+    }
+    Ok(())
+}
+
+/// Appends copies of these entries to others; if memory is refused, those are unchanged.
+fn append_copies(
+    following: &mut VecDeque<Entry>,
+    entries: &[Entry],
+) -> std::result::Result<(), AllocError>
+    ensures ok { OnOk result (following.new.items ≡ following.old.items ++ entries.now) }
+    ensures err { OnErr result (following.new.items ≡ following.old.items) }
+{
+    let before = following.len();
+    following.reserve(entries.len())?;
+    match push_copies(following, entries) {
+        Ok(()) => Ok(()),
+        Err(error) => {
+            following.truncate(before);
+            Err(error)
+        }
+    }
+}
+
+/// Puts these entries before others, in the time of their own number; if memory is refused, both are unchanged.
+fn put_before(
+    entries: &mut VecDeque<Entry>,
+    following: &mut VecDeque<Entry>,
+) -> std::result::Result<(), AllocError>
+    ensures ok { OnOk result (following.new.items ≡ entries.old.items ++ following.old.items) }
+    ensures err { OnErr result (entries.new.items ≡ entries.old.items) }
+{
+    let count = entries.len();
+    following.append(entries)?;
+    following.rotate_right(count);
+    Ok(())
+}
+
+/// Appends entries to others, in the time of the fewer; if memory is refused, the others are unchanged.
+fn append_entries(
+    entries: &mut VecDeque<Entry>,
+    mut following: VecDeque<Entry>,
+) -> std::result::Result<(), AllocError>
+    ensures ok { OnOk result (entries.new.items ≡ entries.old.items ++ following.items) }
+    ensures err { OnErr result (entries.new.items ≡ entries.old.items) }
+{
+    if following.len() <= entries.len() {
+        return entries.append(&mut following);
+    }
+    put_before(entries, &mut following)?;
+    *entries = following;
+    Ok(())
+}
+
 /// Completes the opening delimiter of a group, and adds its closing delimiter; if memory is refused, the entries are unchanged.
 fn enclose(
-    entries: &mut Vec<Entry>,
+    entries: &mut VecDeque<Entry>,
     place: usize,
     opening: Entry,
     closing: Entry,
@@ -78,7 +142,7 @@ fn enclose(
     ensures ok { OnOk result (entries.new.items ≡ slice_set (entries.old.items ++ closing ∷ []) place opening) }
     ensures err { OnErr result (entries.new.items ≡ entries.old.items) }
 {
-    entries.push(closing)?;
+    entries.push_back(closing)?;
     entries[place] = opening;
     Ok(())
 }
@@ -108,7 +172,7 @@ impl StreamBuilder {
                 entries: entries.len(),
                 trees,
             },
-            entries,
+            entries: VecDeque::from_vec(entries),
             pending: Vec::new(alloc),
             trees,
             words: Words::new(alloc),
@@ -128,7 +192,7 @@ impl StreamBuilder {
         ensures ok { OnOk result (self.new ≡ record self.old { stream = self.old.stream ⧺ decode (token ∷ []) }) }
         ensures err { OnErr result (self.new ≡ self.old) }
     {
-        self.entries.push(token)?;
+        self.entries.push_back(token)?;
         self.trees += 1;
         Ok(())
     }
@@ -142,6 +206,20 @@ impl StreamBuilder {
     {
         append_copies(&mut self.entries, stream.entries())?;
         self.trees += stream.len();
+        Ok(())
+    }
+
+    /// Appends the trees of another builder, in which no group is open. It moves the entries of the shorter builder and copies none;
+    /// if memory is refused, nothing is appended.
+    pub fn append_built(&mut self, other: StreamBuilder) -> std::result::Result<(), AllocError>
+        requires { other.open_groups ≡ [] }
+        ensures prints { OnOk result (self.new ≡ added self.old other.stream) }
+        ensures err { OnErr result (self.new ≡ self.old) }
+        ensures begins { self.new.before ≡ self.old.before }
+    {
+        let StreamBuilder { entries, trees, .. } = other;
+        append_entries(&mut self.entries, entries)?;
+        self.trees += trees;
         Ok(())
     }
 
@@ -196,6 +274,13 @@ impl StreamBuilder {
         self.push(entry)
     }
 
+    /// Whether a group is open.
+    pub fn is_open(&self) -> bool
+        ensures { result ≡ is_open self.now }
+    {
+        !self.pending.is_empty()
+    }
+
     /// Opens a group; if memory is refused, all is unchanged.
     pub fn open(
         &mut self,
@@ -213,7 +298,7 @@ impl StreamBuilder {
         let entry = Entry::open(self.alloc, open)?;
         self.pending.reserve(1)?;
         let at = self.entries.len();
-        self.entries.push(entry)?;
+        self.entries.push_back(entry)?;
         self.pending.push(Pending {
             delimiter,
             opening,
@@ -283,7 +368,7 @@ impl StreamBuilder {
     }
 
     /// The stream. It allocates nothing.
-    pub(crate) fn into_stream(self) -> TokenStream
+    pub fn into_stream(self) -> TokenStream
         requires { self.open_groups ≡ [] }
         ensures { result ≡ self.stream }
     {
@@ -293,7 +378,7 @@ impl StreamBuilder {
             alloc,
             ..
         } = self;
-        TokenStream::of_entries(entries, trees, alloc)
+        TokenStream::of_entries(entries.into_vec(), trees, alloc)
     }
 
     /// What the builder began with, without what was added, even if groups are open. It allocates nothing.
@@ -308,6 +393,6 @@ impl StreamBuilder {
         } = self;
         let mut entries = entries;
         entries.truncate(mark.entries);
-        TokenStream::of_entries(entries, mark.trees, alloc)
+        TokenStream::of_entries(entries.into_vec(), mark.trees, alloc)
     }
 }

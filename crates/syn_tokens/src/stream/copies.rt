@@ -1,5 +1,5 @@
 //! Copies of token trees and streams: each makes one allocation, however deep the groups are.
-ghost use Rattle.std.specs.Prelude.{◌≡◌, ◌++◌, ℕ, [], length, take, IfOk, IfErr, OnOk, OnErr};
+ghost use Rattle.std.specs.Prelude.{◌≡◌, ◌++◌, ℕ, [], length, take, IfOk, IfErr, OnOk};
 ghost use Rattle.syn_grammar.specs.Tokens.{end};
 ghost use Rattle.syn_grammar.specs.Take as grammar;
 ghost use Rattle.syn_tokens.specs.Entries.{decode, IsFlat};
@@ -7,6 +7,7 @@ ghost use Rattle.syn_tokens.specs.Lists.{listed};
 ghost use Rattle.syn_tokens.specs.Trees.{stream_of, before};
 ghost use Rattle.syn_tokens.specs.Cursors.{before_next};
 ghost use Rattle.syn_tokens.specs.Places.{place};
+ghost use Rattle.syn_tokens.specs.Faults.{out_of_memory};
 
 use crate::error::Result;
 use crate::stream::TokenStream;
@@ -24,25 +25,6 @@ fn push_copies(following: &mut Vec<Entry>, entries: &[Entry]) -> std::result::Re
         following.push(entry.copy()?)?;
     }
     Ok(())
-}
-
-/// Appends copies of these entries to others; if memory is refused, those are unchanged.
-pub(super) fn append_copies(
-    following: &mut Vec<Entry>,
-    entries: &[Entry],
-) -> std::result::Result<(), AllocError>
-    ensures ok { OnOk result (following.new.items ≡ following.old.items ++ entries.now) }
-    ensures err { OnErr result (following.new.items ≡ following.old.items) }
-{
-    let before = following.len();
-    following.reserve(entries.len())?;
-    match push_copies(following, entries) {
-        Ok(()) => Ok(()),
-        Err(error) => {
-            following.truncate(before);
-            Err(error)
-        }
-    }
 }
 
 /// A copy of these entries.
@@ -114,7 +96,7 @@ impl TokenTree {
     /// A copy of the tree, with the same spans, in memory from `alloc`; fails only if memory is refused.
     pub fn try_clone(&self, alloc: Global) -> Result<TokenTree>
         ensures ok { IfOk result (λ copy. copy ≡ self.now) }
-        ensures err { IfErr result (λ e. e ≡ []) }
+        ensures err { IfErr result (λ e. e ≡ out_of_memory) }
     {
         Ok(self.copy(alloc)?)
     }
@@ -131,7 +113,7 @@ impl TokenStream {
     /// A copy of the stream, with the same spans, in memory from `alloc`; fails only if memory is refused.
     pub fn try_clone(&self, alloc: Global) -> Result<TokenStream>
         ensures ok { IfOk result (λ copy. copy ≡ self.now) }
-        ensures err { IfErr result (λ e. e ≡ []) }
+        ensures err { IfErr result (λ e. e ≡ out_of_memory) }
     {
         Ok(self.copy(alloc)?)
     }
@@ -141,7 +123,7 @@ impl TokenStream {
     #[tactic(auto, using(crate::proofs::Places::place_is, crate::proofs::Places::no_place))]
     pub fn get(&self, index: usize) -> Result<Option<TokenTree>>
         ensures ok { IfOk result (λ tree. stream_of (listed tree) ≡ place index self.now) }
-        ensures err { IfErr result (λ e. e ≡ []) }
+        ensures err { IfErr result (λ e. e ≡ out_of_memory) }
     {
         let mut rest = self.cursor();
         rest.skip(index);

@@ -1,5 +1,6 @@
 //! Fallible copies.
 ghost use Rattle.std.specs.Prelude.{◌≡◌, [], map, IfOk, IfErr, None};
+ghost use Rattle.syn_tokens.specs.Faults.{out_of_memory};
 
 use crate::error::Result;
 use crate::ident::Ident;
@@ -16,7 +17,7 @@ pub trait TryClone: Syntactic {
     /// A copy that represents the same syntax, spans included, in memory from `alloc`. Fails only if memory is refused.
     fn try_clone(&self, alloc: Global) -> Result<Self>
         ensures copy { IfOk result (λ copy. Self.syntax copy ≡ Self.syntax self.now) }
-        ensures memory { IfErr result (λ e. e ≡ []) };
+        ensures memory { IfErr result (λ e. e ≡ out_of_memory) };
 }
 
 impl TryClone for Ident {
@@ -98,7 +99,7 @@ impl<T: TryClone + Drop, P: TryClone + Drop> Punctuated<T, P> {
     pub fn try_clone(&self, alloc: Global) -> Result<Punctuated<T, P>>
         ensures list { IfOk result (λ copy. list_of T.syntax P.syntax copy.pairs copy.last ≡ list_of T.syntax P.syntax self.now.pairs self.now.last) }
         ensures joined { IfOk result (λ copy. joined_of T.syntax P.syntax copy.pairs copy.last ≡ joined_of T.syntax P.syntax self.now.pairs self.now.last) }
-        ensures memory { IfErr result (λ e. e ≡ []) }
+        ensures memory { IfErr result (λ e. e ≡ out_of_memory) }
     {
         let mut copy = self.copy_pairs(alloc)?;
         match self.trailing_value() {
@@ -114,7 +115,7 @@ impl<T: TryClone + Drop, P: TryClone + Drop> Punctuated<T, P> {
     fn copy_pairs(&self, alloc: Global) -> Result<Punctuated<T, P>>
         ensures pairs { IfOk result (λ copy. map (pair_of T.syntax P.syntax) copy.pairs ≡ map (pair_of T.syntax P.syntax) self.now.pairs) }
         ensures last { IfOk result (λ copy. copy.last ≡ None) }
-        ensures memory { IfErr result (λ e. e ≡ []) }
+        ensures memory { IfErr result (λ e. e ≡ out_of_memory) }
     {
         let mut copy = Punctuated::new(alloc);
         for (value, punct) in self.pairs() {

@@ -1,6 +1,7 @@
 //! Streams whose groups are nested deep, and streams that are built entry by entry.
-use crate::tests::support::{assert_shown, at, is_shown, refused, stream};
+use crate::tests::support::{assert_shown, at, is_shown, refused, stream, tokens_from};
 use std::alloc::Global;
+use std::process::Abort;
 use syn_parse::buffer::ParseBuffer;
 use syn_tokens::delimiter::Delimiter;
 use syn_tokens::error::Result;
@@ -89,6 +90,29 @@ fn copied_once(rt: HostRuntime) -> Result<()> {
 fn built_once(rt: HostRuntime) -> Result<()> {
     assert_eq!(rt; nested(rt.alloc(), 50)?.entries().len(), 100);
     Ok(())
+}
+
+/// The stream of two builders that are joined, the tokens of the second one from 4 on.
+fn joined(alloc: Global, first: &str, second: &str) -> Result<TokenStream> {
+    let mut builder = StreamBuilder::new(alloc);
+    builder.append(&tokens_from(alloc, first, 0)?)?;
+    let mut other = StreamBuilder::new(alloc);
+    other.append(&tokens_from(alloc, second, 4)?)?;
+    builder.append_built(other)?;
+    builder.finish()
+}
+
+fn assert_joined(rt: &impl Abort, alloc: Global, first: &str, second: &str, want: &str) {
+    let stream = joined(alloc, first, second).expect(rt, "a stream");
+    assert_shown(rt, &stream, want);
+}
+
+#[test]
+fn builders_joined(rt: HostRuntime) {
+    assert_joined(&rt, rt.alloc(), "", "a ( b )", "a@4..5 (@5..6 b@6..7 )@7..8");
+    assert_joined(&rt, rt.alloc(), "a", "b ( c )", "a@0..1 b@4..5 (@5..6 c@6..7 )@7..8");
+    assert_joined(&rt, rt.alloc(), "( a )", "b", "(@0..1 a@1..2 )@2..3 b@4..5");
+    assert_joined(&rt, rt.alloc(), "a b", "", "a@0..1 b@1..2");
 }
 
 const SAMPLE: &str = "a { b [ ] c } d";

@@ -37,19 +37,20 @@ fn memory(rt: HostRuntime) {
     assert!(rt; error.is_memory() && error.faults().is_empty());
     assert!(rt; error.span() == Span::call_site() && !error.is_too_deep());
     assert!(rt; says(&error, rt.alloc(), "out of memory"));
+    assert!(rt; Error::from(error.into_alloc_error()).is_memory());
 }
 
 /// Whether it is the error of what is nested too deep, there.
 fn is_too_deep(error: &Error, there: Span) -> bool {
-    error.is_memory() && error.is_too_deep() && error.faults().is_empty() && error.span() == there
+    error.is_too_deep() && !error.is_memory() && error.faults().is_empty() && error.span() == there
 }
 
 #[test]
 fn too_deep(rt: HostRuntime) {
     let error = Error::too_deep(at(7));
     assert!(rt; is_too_deep(&error, at(7)));
-    assert!(rt; says(&error, rt.alloc(), "nested too deep"));
-    assert!(rt; !Error::new(at(7), "nested too deep").is_too_deep());
+    assert!(rt; says(&error, rt.alloc(), "nested too deeply"));
+    assert!(rt; !Error::new(at(7), "nested too deeply").is_too_deep());
 }
 
 /// Three faults, at 0, 1 and 2.
@@ -84,24 +85,26 @@ fn combined(rt: HostRuntime) {
 #[test]
 fn combined_with_memory(rt: HostRuntime) {
     let mut error = three();
-    error.combine(Error::memory());
+    error.combine(Error::from(AllocError));
     assert!(rt; error.is_memory());
-    let mut refused = Error::memory();
+    let mut refused = Error::from(AllocError);
     refused.combine(Error::new(at(0), "a"));
     assert!(rt; refused.is_memory() && !refused.is_too_deep());
 }
 
-/// Where it goes too deep is kept, and of two refusals of memory the first.
+/// The first nesting that is too deep is kept, unless memory was refused.
 #[test]
 fn combined_with_too_deep(rt: HostRuntime) {
     let mut error = three();
     error.combine(Error::too_deep(at(7)));
     assert!(rt; is_too_deep(&error, at(7)));
     error.combine(Error::too_deep(at(8)));
-    error.combine(Error::memory());
     error.combine(Error::new(at(0), "a"));
     assert!(rt; is_too_deep(&error, at(7)));
-    let mut refused = Error::memory();
+    let mut other = Error::too_deep(at(7));
+    other.combine(Error::from(AllocError));
+    assert!(rt; other.is_memory() && !other.is_too_deep());
+    let mut refused = Error::from(AllocError);
     refused.combine(error);
     assert!(rt; refused.is_memory() && !refused.is_too_deep());
 }
@@ -132,9 +135,9 @@ fn refusals(rt: HostRuntime) {
 
 #[test]
 fn exhausted(rt: HostRuntime) {
-    assert!(rt; matches!(exhaust(), Err(Refusal::Memory(None))));
-    assert!(rt; Error::from(Refusal::Memory(None)).is_memory());
-    let too_deep = Error::from(Refusal::Memory(Some(at(7))));
+    assert!(rt; matches!(exhaust(), Err(Refusal::Memory(_))));
+    assert!(rt; Error::from(Refusal::Memory(AllocError)).is_memory());
+    let too_deep = Error::from(Refusal::TooDeep(at(7)));
     assert!(rt; is_too_deep(&too_deep, at(7)));
 }
 

@@ -73,7 +73,7 @@ fn read_fields_named<E: Carrier>(
     ensures { Parses E.is_syntax itself rules.fields_named input.old result input.new }
 {
     let Some(left) = inside.0.checked_sub(FIELDS) else {
-        return Err(E::carry(Refusal::Memory(Some(input.span()))));
+        return Err(E::carry(Refusal::TooDeep(input.span())));
     };
     let knot = Knot {
         fields_named: read_fields_named::<E>,
@@ -125,10 +125,9 @@ fn fields_within<N: Nested>(
     requires { MayBelow N.may nested.now input.old }
     ensures { Parses IsSyntax itself rules.fields_named input.old result input.new }
 {
-    let outside = input.stack_left();
-    input.set_stack_left(kib);
-    let answer = braced_fields(nested, input);
-    input.set_stack_left(outside);
+    let mut inside = input.with_stack_left(kib);
+    let answer = braced_fields(nested, &mut inside);
+    input.advance_to(&inside);
     answer
 }
 
@@ -213,7 +212,7 @@ fn nameless_fields<N: Nested>(nested: &N, input: &mut ParseBuffer<'_>) -> Parsed
     let _fields = nested.fields_named(input)?;
     match begin.between(input) {
         Ok(tokens) => Ok(tokens),
-        Err(_) => Err(Refusal::Memory(None)),
+        Err(error) => Err(Refusal::Memory(error.into_alloc_error())),
     }
 }
 

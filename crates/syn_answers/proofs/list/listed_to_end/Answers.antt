@@ -1,6 +1,9 @@
+use Rattle.std.proofs.Common.{◌≡◌, false, refl, sym, rules}
 use Rattle.syn_grammar.specs.Promises.{Refused}
+use Rattle.syn_grammar.specs.Take.{sees}
+use Rattle.syn_grammar.specs.Tokens.{ended}
 use Rattle.syn_grammar.specs.Rules.{file}
-use Rattle.syn_answers.proofs.Listing.{begun, unbegun, gone_on, refused, same_err}
+use Rattle.syn_answers.proofs.Listing.{begun, unbegun, gone_on, item_less, refused, same_err}
 use Rattle.syn_answers.proofs.list.listed_to_end.Goals as goal
 use Rattle.syn_recognize.specs.Names as names
 
@@ -15,9 +18,16 @@ items-init c = begun c.args.tokens.now c.new-input.result _ c.new-list.result.it
 
 pub returns-in_err-item-clause-refused : goal.returns-in_err-item-clause-refused
 returns-in_err-item-clause-refused c =
+    let more : sees ended c.items.input ≡ false = search rules in
     same_err c.from_residual-in_err-item.result c.in_err-item.field-0.0 (Refused file c.args.tokens.now) c.from_residual-in_err-item.ensures.1
-    (λ s. refused c.args.tokens.now c.items.list.items c.items.input c.is_empty.result c.items.invariant c.is_empty.ensures c.if-is_empty.false (c.in_err-item.ensures s))
+    (λ s. refused c.args.tokens.now c.items.list.items c.items.input false c.items.invariant (sym more) refl (c.in_err-item.ensures.read s))
 
 pub items-preserved : goal.items-preserved
 items-preserved c =
-    gone_on c.args.tokens.now c.items.list.items _ c.items.input c.in_ok-item.item _ c.is_empty.result c.items.invariant c.is_empty.ensures c.if-is_empty.false c.in_ok-item.ensures c.in_ok-push.ensures.items
+    let more : sees ended c.items.input ≡ false = search rules in
+    gone_on c.args.tokens.now c.items.list.items _ c.items.input c.in_ok-item.item _ false c.items.invariant (sym more) refl c.in_ok-item.ensures.read c.in_ok-push.ensures.items
+
+pub items-smaller : goal.items-smaller
+items-smaller c =
+    let (s, read, named) = c.in_ok-item.ensures.read in
+    item_less c.in_ok-item.item.kind s c.items.input c.read_item.new.input read

@@ -1,4 +1,9 @@
 //! The links that were counted in a group. What may be none counts too, so there are never more than were counted.
+ghost use Rattle.std.specs.Prelude.{◌≡◌, ◌<◌, IfSome};
+ghost use Rattle.syn_grammar.specs.Tokens.{end};
+ghost use Rattle.syn_grammar.specs.Take.{left};
+ghost use Rattle.syn_tokens.specs.Cursors.{before_next};
+
 use syn_tokens::delimiter::Delimiter;
 use syn_tokens::ident::ident_ref::IdentRef;
 use syn_tokens::punct::{Punct, Spacing};
@@ -38,12 +43,17 @@ pub(super) struct Level<'a> {
     inside: u32,
     /// How many are nested at most in what has ended.
     ended: u32,
-    /// Whether a type may have begun, where `<` opens its arguments without `::`.
+    /// Whether the type of a cast, or a return type, may have begun, where `<` opens arguments without `::`.
     in_type: bool,
     /// How many `<` may be open.
     angles: u32,
     /// Whether a closure may have begun, whose parameters have commas.
     closure: bool,
+}
+
+/// Whether this keyword is an operand, or a word of a path that no arguments follow.
+fn is_operand_word(text: &str) -> bool {
+    matches!(text, "self" | "super" | "crate" | "true" | "false")
 }
 
 impl<'a> Level<'a> {
@@ -53,7 +63,9 @@ impl<'a> Level<'a> {
     }
 
     /// A group that wasn't looked at.
-    fn following(delimiter: Delimiter, opening: Span, rest: Cursor<'a>) -> Level<'a> {
+    fn following(delimiter: Delimiter, opening: Span, rest: Cursor<'a>) -> Level<'a>
+        ensures { result.rest ≡ rest.entry }
+    {
         Level {
             rest,
             opening,
@@ -74,7 +86,10 @@ impl<'a> Level<'a> {
     }
 
     /// Looks at the next tree. The level of its content, where it is a group whose links count.
-    pub(super) fn see(&mut self, tree: TokenTreeRef<'a>) -> Option<Level<'a>> {
+    pub(super) fn see(&mut self, tree: TokenTreeRef<'a>) -> Option<Level<'a>>
+        ensures rest { self.new.rest ≡ self.old.rest }
+        ensures inside { IfSome result (λ inner. left inner.rest < left (before_next tree.entry end)) }
+    {
         match tree {
             TokenTreeRef::Ident(ident) => self.see_ident(&ident),
             TokenTreeRef::Literal(_) => self.before = Before::Operand,
@@ -85,7 +100,9 @@ impl<'a> Level<'a> {
     }
 
     /// Continues after a group.
-    pub(super) fn close(&mut self, inner: &Level<'_>) {
+    pub(super) fn close(&mut self, inner: &Level<'_>)
+        ensures { self.new.rest ≡ self.old.rest }
+    {
         let most = inner.ended.max(inner.unended());
         if inner.delimiter == Delimiter::None {
             self.links = self.links.saturating_add(most);
@@ -95,7 +112,9 @@ impl<'a> Level<'a> {
     }
 
     /// Ends an element or a statement.
-    fn end(&mut self) {
+    fn end(&mut self)
+        ensures { self.new.rest ≡ self.old.rest }
+    {
         self.ended = self.ended.max(self.unended());
         self.links = 0;
         self.inside = 0;
@@ -104,12 +123,16 @@ impl<'a> Level<'a> {
         self.closure = false;
     }
 
-    fn link(&mut self) {
+    fn link(&mut self)
+        ensures { self.new.rest ≡ self.old.rest }
+    {
         self.links = self.links.saturating_add(1);
     }
 
-    /// After braces only `as` and `else` continue.
-    fn see_ident(&mut self, ident: &IdentRef<'_>) {
+    /// A cast begins a type. After braces only `as` and `else` continue an expression.
+    fn see_ident(&mut self, ident: &IdentRef<'_>)
+        ensures { self.new.rest ≡ self.old.rest }
+    {
         let text = ident.text();
         match self.before {
             Before::Braces if text != "as" && text != "else" => self.end(),
@@ -123,20 +146,29 @@ impl<'a> Level<'a> {
             Before::Mark('.', _) => Before::Member,
             Before::Mark('\'', _) => Before::Word,
             _ if text == "as" || text == "mut" || text == "const" => Before::Start,
+            _ if is_operand_word(text) => Before::Operand,
+            _ if text == "Self" => Before::Name,
             _ if ident.is_keyword() => Before::Word,
             _ => Before::Name,
         };
     }
 
-    fn see_punct(&mut self, punct: Punct) {
+    fn see_punct(&mut self, punct: Punct)
+        ensures { self.new.rest ≡ self.old.rest }
+    {
         let character = punct.character();
         let first = match self.before {
             Before::Mark(first, true) => first,
             _ => ' ',
         };
+        let was_open = self.angles > 0;
         self.count_mark(first, character);
         self.before = match (self.before, character) {
             (_, '?') => Before::Operand,
+            // the end of `->`, which a type follows
+            (_, '>') if first == '-' => Before::Start,
+            // the end of generic arguments
+            (_, '>') if was_open && self.angles == 0 => Before::Operand,
             (Before::Name, '!') => Before::Bang,
             // a third one is no character of `<<`
             (Before::Mark('<', true), '<') => Before::Mark('<', false),
@@ -145,44 +177,62 @@ impl<'a> Level<'a> {
     }
 
     /// Counts a character of a mark, after another of it.
-    fn count_mark(&mut self, first: char, character: char) {
+    fn count_mark(&mut self, first: char, character: char)
+        ensures { self.new.rest ≡ self.old.rest }
+    {
         match (first, character) {
             (_, ';') => self.end(),
             (_, ',') if self.angles == 0 && !self.closure => self.end(),
-            (_, ':') | ('-', '>') => self.in_type = true,
+            ('-', '>') => self.in_type = true,
             ('|', '|') => {}
             (_, '<') => {
                 self.open_angle(first);
-                self.count_operator();
+                self.count_operator(character);
             }
             (_, '>') => {
                 self.angles = self.angles.saturating_sub(1);
-                self.count_operator();
+                self.count_operator(character);
             }
             (_, '|') => {
                 self.closure = self.closure || !self.has_operand();
-                self.count_operator();
+                self.count_operator(character);
             }
-            (_, '+' | '-' | '*' | '/' | '%' | '^' | '&' | '.' | '?') => self.count_operator(),
+            (_, '+' | '-' | '*' | '/' | '%' | '^' | '&' | '.' | '?') => self.count_operator(
+                character,
+            ),
             _ => {}
         }
     }
 
-    /// Opens generic arguments, unless it is known that this is an operator: an operand has ended, and no type or `::` is before it;
-    /// or it is the second character of such an operator.
-    fn open_angle(&mut self, first: char) {
+    /// Opens generic arguments, unless it is known that this is an operator: an operand has ended, and it is not the name of a type
+    /// or before `::`; or it is the second character of such an operator. An operator ends a type.
+    fn open_angle(&mut self, first: char)
+        ensures { self.new.rest ≡ self.old.rest }
+    {
         let is_operator = first == '<' || self.has_operand();
-        if self.in_type || self.angles > 0 || !is_operator {
+        let is_type = self.in_type && !matches!(self.before, Before::Operand);
+        if is_type || self.angles > 0 || !is_operator {
             self.angles = self.angles.saturating_add(1);
+        } else {
+            self.in_type = false;
         }
     }
 
-    /// Counts an operator, unless it is known that no operand is before it.
-    fn count_operator(&mut self) {
+    /// Counts an operator, unless it is known that no operand is before it. Outside of generic arguments it ends a type, unless it
+    /// is `<` or `>`, or may belong to the type, as in `&'a *const T`.
+    fn count_operator(&mut self, character: char)
+        ensures { self.new.rest ≡ self.old.rest }
+    {
         match self.before {
             Before::Start => {}
             Before::Mark(mark, _) if mark != '>' => {}
-            _ => self.link(),
+            _ => {
+                self.link();
+                let is_in_type = self.angles > 0
+                    || !self.has_operand()
+                    || matches!(character, '<' | '>');
+                self.in_type = self.in_type && is_in_type;
+            }
         }
     }
 
@@ -191,9 +241,15 @@ impl<'a> Level<'a> {
         matches!(self.before, Before::Name | Before::Member | Before::Operand)
     }
 
-    /// Parentheses and brackets after what may be an operand continue it; those of a method were counted with its `.`.
-    fn see_group(&mut self, group: GroupRef<'a>) -> Option<Level<'a>> {
+    /// Parentheses and brackets after what may be an operand continue it; those of a method were counted with its `.`. Braces that
+    /// are not in generic arguments end a type; others may belong to it.
+    fn see_group(&mut self, group: GroupRef<'a>) -> Option<Level<'a>>
+        ensures rest { self.new.rest ≡ self.old.rest }
+        ensures inside { IfSome result (λ inner. inner.rest ≡ group.entry.content) }
+    {
         let before = self.before;
+        self.in_type = self.in_type
+            && (self.angles > 0 || !matches!(group.delimiter, Delimiter::Brace));
         self.before = match (before, group.delimiter) {
             (_, Delimiter::Brace) => Before::Braces,
             (Before::Mark('#' | '!', _), Delimiter::Bracket) => Before::Word,

@@ -130,7 +130,8 @@ fn at_foreign_module(input: &ParseBuffer<'_>) -> Parsed<bool>
     let mut ahead = input.fork();
     match marked_abi(&mut ahead) {
         Ok(_) => Ok(ahead.peek::<Brace>()),
-        Err(Refusal::Memory(at)) => Err(Refusal::Memory(at)),
+        Err(Refusal::Memory(error)) => Err(Refusal::Memory(error)),
+        Err(Refusal::TooDeep(span)) => Err(Refusal::TooDeep(span)),
         Err(Refusal::Syntax { .. }) => Ok(false),
     }
 }

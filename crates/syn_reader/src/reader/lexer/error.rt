@@ -28,7 +28,9 @@ impl Model for LexError {
 pub(in crate::reader) type Result<T> = std::result::Result<T, LexError>;
 
 impl From<LexError> for Error {
-    ghost from_gives = { λ e error. error ≡ e };
+    ghost use Rattle.syn_tokens.specs.Faults.{syntax_error};
+
+    ghost from_gives = { λ faults error. error ≡ syntax_error faults };
 
     fn from(e: LexError) -> Error {
         Error::new(e.fault.span, e.fault.text)

@@ -46,8 +46,8 @@ returns-then-at_static c =
     λ ts. static_follows kept_foreign_item ts a m b marks v n vis IsSyntax syntax_of_ForeignItem c.foreign_static.result c.foreign_static.new.input no_type here (c.foreign_static.ensures.follows ts) in
     search (rules, follows)
 
-pub returns-then-branch : goal.returns-then-branch
-returns-then-branch c =
+pub returns-then-at_foreign_function : goal.returns-then-at_foreign_function
+returns-then-at_foreign_function c =
     let a = attributes_syntax c.args.attrs.items in
     let m = c.args.input.now in
     let b = c.at_visibility-is_marked.result in

@@ -14,8 +14,8 @@ use Rattle.syn_item.specs.Planned.{Follows}
 use Rattle.syn_item.proofs.ItemPlans.{default_follows, macro_read}
 use Rattle.syn_item.proofs.item.parsing.without_keyword.Goals as goal
 
-pub returns-then-branch : goal.returns-then-branch
-returns-then-branch c =
+pub returns-then-at_default_impl : goal.returns-then-at_default_impl
+returns-then-at_default_impl c =
     let p = place_of c.args.begun.place in
     let a = attributes_syntax c.args.begun.attrs.items in
     let m = c.args.input.now in

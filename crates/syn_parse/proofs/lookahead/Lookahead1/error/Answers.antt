@@ -1,10 +1,10 @@
-use Rattle.std.proofs.Common.{◌≡◌, ◌∷◌, ◌<◌, length, ap, append-nil, arith, refl, rules, sym}
+use Rattle.std.proofs.Common.{◌≡◌, ◌∷◌, ◌<◌, length, ap, arith, refl, rules}
 use Rattle.syn_parse.specs.Nexts.{IsNext}
-use Rattle.syn_parse.proofs.Lookaheads.{one_known, all_known}
+use Rattle.syn_parse.proofs.Lookaheads.{one_known, first_known, all_known}
 use Rattle.syn_parse.proofs.lookahead.Lookahead1.error.Goals as goal
 
 pub loop-name-init : goal.loop-name-init
-loop-name-init c = sym (append-nil c.new-error.result)
+loop-name-init c = first_known c.new-error.result _ c.new-error.ensures
 
 pub loop-name-preserved : goal.loop-name-preserved
 loop-name-preserved c =
