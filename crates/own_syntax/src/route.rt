@@ -61,6 +61,10 @@ impl Read for RoutePath {
         route_path(input)
     }
 
+    fn refuse_too_deep(_input: &mut ParseBuffer<'_>) -> syn::Result<()> {
+        Ok(())
+    }
+
     ghost meaning = { meaning_of _ refl };
 }
 
@@ -122,6 +126,10 @@ impl Read for Guard {
             if_token: input.read()?,
             condition: input.read()?,
         })
+    }
+
+    fn refuse_too_deep(_input: &mut ParseBuffer<'_>) -> syn::Result<()> {
+        Ok(())
     }
 
     ghost meaning = { meaning_of _ refl };

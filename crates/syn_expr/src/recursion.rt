@@ -1,9 +1,10 @@
 //! Where the parsers of expressions and statements lead back to each other.
-ghost use Rattle.std.specs.Prelude.{◌≡◌, refl, None, IfErr, OnErr};
-ghost use Rattle.syn_recognize.specs.Names as names;
+ghost use Rattle.std.specs.Prelude.{◌≡◌, ◌<◌, refl, IfErr, OnErr};
 ghost use Rattle.syn_grammar.specs.Rules as rules;
+ghost use Rattle.syn_tokens.specs.Faults.{IsTooDeepError};
 ghost use Rattle.syn_parse.specs.Meanings.{meaning_of, meaning_of_rule};
-ghost use Rattle.syn_lower.specs.Parsing.{of, rule, parse_rule, Computes, Kept, MayBelow, MayParse, Outcome, Parses, IsSyntax, IsSyntaxError};
+ghost use Rattle.syn_parse.specs.Nesting.{levels, nesting};
+ghost use Rattle.syn_lower.specs.Parsing.{of, rule, parse_rule, Computes, Kept, MayParse, Outcome, Parses, IsSyntax, IsSyntaxError};
 ghost use Rattle.syn_expr.specs.Expressions.{whole};
 ghost use Rattle.syn_expr_parse.specs.Parsers.{expression_form, rule_of};
 ghost use Rattle.syn_expr_parse.specs.ParseTies.{ExprTies, StatementsTies};
@@ -13,48 +14,35 @@ use crate::trees::ExprTrees;
 use crate::{Block, Expr, Stmt};
 use std::marker::PhantomData;
 use syn_expr_parse::parsing::{
-    Inside, Knot, Rung, Spot, block, constant, expression_within, refuse_long_chains, statement,
-    statements_within,
+    Knot, Rung, Spot, block, constant, expression, statement, statements,
 };
 use syn_expr_parse::trees::Trees;
 use syn_lower::carrier::Carrier;
 use syn_parse::buffer::ParseBuffer;
-use syn_parse::limits::EXPRESSION;
 use syn_parse::read::Read;
 use syn_parse::read::refusal::{Parsed, Refusal};
 use syn_recognize::Rule;
 use syn_recognize::deferred::{BlockOf, TreeOf};
+use syn_recognize::depth::refuse_too_deep_by;
 use syn_tokens::error::Result;
 use syn_tokens::token::Brace;
-
-/// How many KiB of stack are left for what the rule parses next. Fails if its chains are too long.
-fn begun(rule: Rule, input: &mut ParseBuffer<'_>) -> Parsed<u32>
-    ensures refused { IfErr result (λ e. IsSyntax e → parse_rule (names.rule_of rule) input.old ≡ None) }
-    ensures unchanged { input.new ≡ input.old }
-{
-    refuse_long_chains(rule, input)?;
-    Ok(input.stack_left())
-}
 
 /// An expression inside of another, or of a block.
 #[cycle(knot)]
 fn nested_expr<E: Carrier>(
     rung: Rung,
     input: &mut ParseBuffer<'_>,
-    inside: Inside<E>,
+    carrier: PhantomData<E>,
 ) -> std::result::Result<Box<Expr>, E>
     ensures parses { Parses E.is_syntax (λ e. whole e.value) (rule_of rung) input.old result input.new }
 {
-    let Some(left) = inside.0.checked_sub(EXPRESSION) else {
-        return Err(E::carry(Refusal::TooDeep(input.span())));
-    };
     let knot = Knot {
         expr: nested_expr::<E>,
         statements: nested_statements::<E>,
-        inside: (left, inside.1),
+        carrier,
         trees: PhantomData::<ExprTrees>,
     };
-    match expression_within(left, &knot, rung, input) {
+    match expression(&knot, rung, input) {
         Ok(value) => Ok(value),
         Err(refusal) => Err(E::carry(refusal)),
     }
@@ -64,20 +52,17 @@ fn nested_expr<E: Carrier>(
 #[cycle(knot)]
 fn nested_statements<E: Carrier>(
     input: &mut ParseBuffer<'_>,
-    inside: Inside<E>,
+    carrier: PhantomData<E>,
 ) -> std::result::Result<Vec<Stmt>, E>
     ensures parses { MayParse E.is_syntax (λ v. statements_syntax v.items) rules.statements input.old result input.new }
 {
-    let Some(left) = inside.0.checked_sub(EXPRESSION) else {
-        return Err(E::carry(Refusal::TooDeep(input.span())));
-    };
     let knot = Knot {
         expr: nested_expr::<E>,
         statements: nested_statements::<E>,
-        inside: (left, inside.1),
+        carrier,
         trees: PhantomData::<ExprTrees>,
     };
-    match statements_within(left, &knot, input) {
+    match statements(&knot, input) {
         Ok(value) => Ok(value),
         Err(refusal) => Err(E::carry(refusal)),
     }
@@ -89,14 +74,18 @@ impl Read for Expr {
 
     ghost meaning = { meaning_of _ refl };
 
-    #[tactic(auto, using(crate::specs::Cores::core_view), unfolding(syn_recognize::specs::Names::rule_of))]
+    #[tactic(auto, using(crate::specs::Cores::core_view))]
     fn read(input: &mut ParseBuffer<'_>) -> Parsed<Expr> {
-        let left = begun(Rule::WHOLE_EXPRESSION, input)?;
         Ok(ExprTrees::unboxed(nested_expr::<Refusal>(
             Rung::Whole(Spot::Anywhere),
             input,
-            (left, PhantomData),
+            PhantomData,
         )?))
+    }
+
+    #[tactic(auto, unfolding(syn_recognize::specs::Names::rule_of))]
+    fn refuse_too_deep(input: &mut ParseBuffer<'_>) -> Result<()> {
+        refuse_too_deep_by(Rule::WHOLE_EXPRESSION, input)
     }
 }
 
@@ -104,13 +93,11 @@ impl Read for Expr {
 impl TreeOf<0> for Expr {
     ghost whole = { whole };
 
-    #[tactic(auto, unfolding(syn_recognize::specs::Names::rule_of))]
     fn read_tree(input: &mut ParseBuffer<'_>) -> Parsed<Expr> {
-        let left = begun(Rule::WHOLE_EXPRESSION, input)?;
         Ok(ExprTrees::unboxed(nested_expr::<Refusal>(
             Rung::Whole(Spot::Anywhere),
             input,
-            (left, PhantomData),
+            PhantomData,
         )?))
     }
 }
@@ -119,13 +106,12 @@ impl TreeOf<0> for Expr {
 impl TreeOf<1> for Expr {
     ghost whole = { whole };
 
-    #[tactic(auto, using(crate::specs::Cores::core_view), unfolding(syn_recognize::specs::Names::rule_of))]
+    #[tactic(auto, using(crate::specs::Cores::core_view))]
     fn read_tree(input: &mut ParseBuffer<'_>) -> Parsed<Expr> {
-        let left = begun(Rule::CONSTANT, input)?;
         let knot = Knot {
             expr: nested_expr::<Refusal>,
             statements: nested_statements::<Refusal>,
-            inside: (left, PhantomData),
+            carrier: PhantomData,
             trees: PhantomData::<ExprTrees>,
         };
         Ok(ExprTrees::unboxed(constant(&knot, input)?))
@@ -138,16 +124,19 @@ impl Read for Block {
 
     ghost meaning = { meaning_of_rule rules.block };
 
-    #[tactic(auto, unfolding(syn_recognize::specs::Names::rule_of))]
     fn read(input: &mut ParseBuffer<'_>) -> Parsed<Block> {
-        let left = begun(Rule::BLOCK, input)?;
         let knot = Knot {
             expr: nested_expr::<Refusal>,
             statements: nested_statements::<Refusal>,
-            inside: (left, PhantomData),
+            carrier: PhantomData,
             trees: PhantomData::<ExprTrees>,
         };
         block(&knot, input)
+    }
+
+    #[tactic(auto, unfolding(syn_recognize::specs::Names::rule_of))]
+    fn refuse_too_deep(input: &mut ParseBuffer<'_>) -> Result<()> {
+        refuse_too_deep_by(Rule::BLOCK, input)
     }
 }
 
@@ -165,39 +154,42 @@ impl Read for Stmt {
 
     ghost meaning = { meaning_of_rule rules.statement };
 
-    #[tactic(auto, unfolding(syn_recognize::specs::Names::rule_of))]
     fn read(input: &mut ParseBuffer<'_>) -> Parsed<Stmt> {
-        let left = begun(Rule::STATEMENT, input)?;
         let knot = Knot {
             expr: nested_expr::<Refusal>,
             statements: nested_statements::<Refusal>,
-            inside: (left, PhantomData),
+            carrier: PhantomData,
             trees: PhantomData::<ExprTrees>,
         };
         statement(&knot, input)
+    }
+
+    #[tactic(auto, unfolding(syn_recognize::specs::Names::rule_of))]
+    fn refuse_too_deep(input: &mut ParseBuffer<'_>) -> Result<()> {
+        refuse_too_deep_by(Rule::STATEMENT, input)
     }
 }
 
 impl Block {
     /// Reads statements to the end, as `parse_within` parses them.
-    #[tactic(auto, unfolding(syn_recognize::specs::Names::rule_of))]
     pub fn read_within(input: &mut ParseBuffer<'_>) -> Parsed<Vec<Stmt>>
         ensures parses { MayParse IsSyntax (λ v. statements_syntax v.items) rules.statements input.old result input.new }
     {
-        let left = begun(Rule::STATEMENTS, input)?;
-        nested_statements::<Refusal>(input, (left, PhantomData))
+        nested_statements::<Refusal>(input, PhantomData)
     }
 
     /// Parses statements up to the end of the group or stream. They may be none, and the last expression needs no `;`.
     ///
-    /// If something else than statements is next, or memory is refused, the buffer is unchanged.
-    #[tactic(auto, using(syn_parse::proofs::Refused::refused_by_syntax))]
+    /// If something else than statements is next, memory is refused, or the nesting is too deep, the buffer is unchanged.
+    #[tactic(auto, using(syn_parse::proofs::Refused::refused_by_syntax), unfolding(syn_recognize::specs::Names::rule_of))]
     pub fn parse_within(input: &mut ParseBuffer<'_>) -> Result<Vec<Stmt>>
         ensures outcome { Outcome IsSyntaxError (λ v. statements_syntax v.items) (rule rules.statements) input.old result input.new }
         ensures reads { Computes IsSyntaxError (λ v. statements_syntax v.items) (parse_rule rules.statements input.old) result input.new }
+        ensures deep { IfErr result (λ e. IsTooDeepError e → levels < nesting input.old) }
         ensures unchanged { OnErr result (input.new ≡ input.old) }
         ensures kept { Kept input.old result input.new }
     {
+        refuse_too_deep_by(Rule::STATEMENTS, input)?;
         let mut ahead = input.fork();
         let stmts = Block::read_within(&mut ahead)?;
         input.advance_to(&ahead);

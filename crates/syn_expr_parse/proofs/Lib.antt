@@ -4,7 +4,6 @@ pub mod CratePaths
 pub mod Groups
 pub mod LevelLooks
 pub mod Levels
-pub mod LinkLevels
 pub mod Listed
 pub mod Locals
 pub mod Operators

@@ -4,6 +4,7 @@ pub mod Bodies
 mod BoundLists
 pub mod Compared
 pub mod Equality
+mod Gates
 pub mod GenericPrints
 pub mod GenericsCompared
 mod LifetimePrints

@@ -22,6 +22,9 @@ use syn_parse::buffer::ParseBuffer;
 use syn_parse::read::lists::punctuated_list;
 use syn_parse::read::refusal::Parsed;
 use syn_parse::read::{Peek, Read};
+use syn_recognize::Rule;
+use syn_recognize::depth::refuse_too_deep_by;
+use syn_tokens::error;
 use syn_tokens::lifetime::Lifetime;
 use syn_tokens::print::Print;
 use syn_tokens::punctuated::Punctuated;
@@ -94,6 +97,10 @@ impl Read for BoundLifetimes {
             gt_token: input.read()?,
         })
     }
+
+    fn refuse_too_deep(_input: &mut ParseBuffer<'_>) -> error::Result<()> {
+        Ok(())
+    }
 }
 
 /// Lifetime parameters up to `>`.
@@ -118,6 +125,10 @@ impl Read for TraitBoundModifier {
         } else {
             Ok(TraitBoundModifier::None)
         }
+    }
+
+    fn refuse_too_deep(_input: &mut ParseBuffer<'_>) -> error::Result<()> {
+        Ok(())
     }
 }
 
@@ -159,6 +170,15 @@ impl Read for TraitBound {
             path,
         })
     }
+
+    /// A bound that isn't a lifetime.
+    #[tactic(auto, using(crate::proofs::Gates::no_trait), unfolding(syn_recognize::specs::Names::rule_of))]
+    fn refuse_too_deep(input: &mut ParseBuffer<'_>) -> error::Result<()> {
+        if input.peek::<Lifetime>() {
+            return Ok(());
+        }
+        refuse_too_deep_by(Rule::BOUND, input)
+    }
 }
 
 /// A lifetime or a trait.
@@ -174,6 +194,11 @@ impl Read for TypeParamBound {
         } else {
             Ok(TypeParamBound::Trait(input.read()?))
         }
+    }
+
+    #[tactic(auto, unfolding(syn_recognize::specs::Names::rule_of))]
+    fn refuse_too_deep(input: &mut ParseBuffer<'_>) -> error::Result<()> {
+        refuse_too_deep_by(Rule::BOUND, input)
     }
 }
 

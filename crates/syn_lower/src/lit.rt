@@ -264,6 +264,10 @@ impl Read for Lit {
     }
 
     ghost meaning = { meaning_of _ refl };
+
+    fn refuse_too_deep(_input: &mut ParseBuffer<'_>) -> Result<()> {
+        Ok(())
+    }
 }
 
 /// Two tokens of one kind with one text, `true` and `true`, or `false` and `false`.

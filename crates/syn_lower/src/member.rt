@@ -10,6 +10,7 @@ use syn_parse::buffer::ParseBuffer;
 use syn_parse::read::Read;
 use syn_parse::read::refusal::Parsed;
 use syn_recognize::field_numbers::field_number;
+use syn_tokens::error;
 use syn_tokens::ident::Ident;
 use syn_tokens::literal::{LitKind, Literal};
 use syn_tokens::print::Print;
@@ -53,6 +54,10 @@ impl Read for Index {
             }),
             None => Err(refusal),
         }
+    }
+
+    fn refuse_too_deep(_input: &mut ParseBuffer<'_>) -> error::Result<()> {
+        Ok(())
     }
 }
 

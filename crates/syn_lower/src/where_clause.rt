@@ -21,6 +21,9 @@ use syn_parse::buffer::ParseBuffer;
 use syn_parse::read::lists::punctuated_list;
 use syn_parse::read::refusal::Parsed;
 use syn_parse::read::{Peek, Read};
+use syn_recognize::Rule;
+use syn_recognize::depth::refuse_too_deep_by;
+use syn_tokens::error;
 use syn_tokens::lifetime::Lifetime;
 use syn_tokens::print::{Print, print_list};
 use syn_tokens::punctuated::Punctuated;
@@ -89,6 +92,11 @@ impl Read for WhereClause {
         }
         clause(input)
     }
+
+    #[tactic(auto, unfolding(syn_recognize::specs::Names::rule_of))]
+    fn refuse_too_deep(input: &mut ParseBuffer<'_>) -> error::Result<()> {
+        refuse_too_deep_by(Rule::WHERE_CLAUSE, input)
+    }
 }
 
 /// A where clause if `where` is next.
@@ -146,6 +154,11 @@ impl Read for WherePredicate {
                 bounds: predicate_bounds(input)?,
             }))
         }
+    }
+
+    #[tactic(auto, unfolding(syn_recognize::specs::Names::rule_of))]
+    fn refuse_too_deep(input: &mut ParseBuffer<'_>) -> error::Result<()> {
+        refuse_too_deep_by(Rule::PREDICATE, input)
     }
 }
 

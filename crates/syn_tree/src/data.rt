@@ -1,13 +1,15 @@
 //! Fields and variants.
 ghost use Rattle.syn_grammar.specs.Rules as rules;
 ghost use Rattle.syn_lower.specs.Parsing.{of, rule, meaning_of_rule, parse_rule, Computes, Parses, Moved, Outcome, itself, IsSyntax, IsSyntaxError};
-ghost use Rattle.std.specs.Prelude.{◌≡◌, IsOk, OnErr, OnOk};
+ghost use Rattle.std.specs.Prelude.{◌≡◌, ◌<◌, IfErr, IsOk, OnErr, OnOk};
 ghost use Rattle.syn_grammar.specs.Grammar.{print};
 ghost use Rattle.syn_tokens.specs.Building.{added};
 ghost use Rattle.syn_tokens.specs.InOrder.{pair_of};
 ghost use Rattle.syn_tokens.specs.Kinds.{colon_syntax, eq_syntax};
 ghost use Rattle.syn_tokens.specs.Leaves.{maybe, syntax_of_ident};
 ghost use Rattle.syn_tree.specs.Data.{field_name};
+ghost use Rattle.syn_tokens.specs.Faults.{IsTooDeepError};
+ghost use Rattle.syn_parse.specs.Nesting.{levels, nesting};
 ghost use Rattle.syn_parse.specs.Nexts.{RefusedNext, HasFaultNext};
 ghost use Rattle.syn_tree.specs.Defaults.{RefusesDefault};
 
@@ -26,7 +28,9 @@ use syn_lower::{Attribute, Type};
 use syn_parse::buffer::ParseBuffer;
 use syn_parse::read::Read;
 use syn_parse::read::refusal::Parsed;
+use syn_recognize::Rule;
 use syn_recognize::deferred::DeferredExpr;
+use syn_recognize::depth::refuse_too_deep_by;
 use syn_tokens::error::Result;
 use syn_tokens::ident::Ident;
 use syn_tokens::print::Print;
@@ -100,14 +104,16 @@ impl Field {
     /// Parses a field with a name: attributes, a visibility, a name or `_`, `:` and a type; and if `=` is next, that
     /// and an expression. After `_ :` also `struct` or `union` with fields in braces is a type, which is kept verbatim.
     ///
-    /// Where the tokens are no such field, or memory is refused, the buffer is unchanged.
-    #[tactic(auto, using(syn_parse::proofs::Refused::refused_by_syntax))]
+    /// Where the tokens are no such field, memory is refused, or the nesting is too deep, the buffer is unchanged.
+    #[tactic(auto, using(syn_parse::proofs::Refused::refused_by_syntax), unfolding(syn_recognize::specs::Names::rule_of))]
     pub fn parse_named(input: &mut ParseBuffer<'_>) -> Result<Field>
         ensures outcome { Outcome IsSyntaxError itself (rule rules.named_field) input.old result input.new }
         ensures reads { Computes IsSyntaxError itself (parse_rule rules.named_field input.old) result input.new }
+        ensures deep { IfErr result (λ e. IsTooDeepError e → levels < nesting input.old) }
         ensures unchanged { OnErr result (input.new ≡ input.old) }
         ensures moved { Moved input.old result input.new }
     {
+        refuse_too_deep_by(Rule::NAMED_FIELD, input)?;
         let mut ahead = input.fork();
         let field = Field::read_named(&mut ahead)?;
         input.advance_to(&ahead);
@@ -116,16 +122,18 @@ impl Field {
 
     /// Parses a field without a name: attributes, a visibility and a type, which no `=` may follow.
     ///
-    /// Where the tokens are no such field, or memory is refused, the buffer is unchanged. The fault of a `=` is
-    /// at the token after it, as fields without names have no defaults.
-    #[tactic(auto, using(syn_parse::proofs::Refused::refused_by_syntax))]
+    /// Where the tokens are no such field, memory is refused, or the nesting is too deep, the buffer is unchanged. The fault
+    /// of a `=` is at the token after it, as fields without names have no defaults.
+    #[tactic(auto, using(syn_parse::proofs::Refused::refused_by_syntax), unfolding(syn_recognize::specs::Names::rule_of))]
     pub fn parse_unnamed(input: &mut ParseBuffer<'_>) -> Result<Field>
         ensures outcome { Outcome IsSyntaxError itself (rule rules.unnamed_field) input.old result input.new }
         ensures reads { Computes IsSyntaxError itself (parse_rule rules.unnamed_field input.old) result input.new }
+        ensures deep { IfErr result (λ e. IsTooDeepError e → levels < nesting input.old) }
         ensures default { RefusesDefault input.old IsSyntaxError HasFaultNext result }
         ensures unchanged { OnErr result (input.new ≡ input.old) }
         ensures moved { Moved input.old result input.new }
     {
+        refuse_too_deep_by(Rule::UNNAMED_FIELD, input)?;
         let mut ahead = input.fork();
         let field = Field::read_unnamed(&mut ahead)?;
         input.advance_to(&ahead);
@@ -172,6 +180,11 @@ impl Read for FieldsNamed {
     fn read(input: &mut ParseBuffer<'_>) -> Parsed<FieldsNamed> {
         parsing::fields_named(input)
     }
+
+    #[tactic(auto, unfolding(syn_recognize::specs::Names::rule_of))]
+    fn refuse_too_deep(input: &mut ParseBuffer<'_>) -> Result<()> {
+        refuse_too_deep_by(Rule::FIELDS_NAMED, input)
+    }
 }
 
 /// Fields in parentheses.
@@ -189,6 +202,11 @@ impl Read for FieldsUnnamed {
             paren_token,
             unnamed,
         })
+    }
+
+    #[tactic(auto, unfolding(syn_recognize::specs::Names::rule_of))]
+    fn refuse_too_deep(input: &mut ParseBuffer<'_>) -> Result<()> {
+        refuse_too_deep_by(Rule::FIELDS_UNNAMED, input)
     }
 }
 
@@ -208,6 +226,11 @@ impl Read for Variant {
             fields: parsing::fields(input)?,
             discriminant: parsing::value(input)?,
         })
+    }
+
+    #[tactic(auto, unfolding(syn_recognize::specs::Names::rule_of))]
+    fn refuse_too_deep(input: &mut ParseBuffer<'_>) -> Result<()> {
+        refuse_too_deep_by(Rule::VARIANT, input)
     }
 }
 

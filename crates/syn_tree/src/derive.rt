@@ -25,6 +25,9 @@ use syn_lower::{Attribute, Generics};
 use syn_parse::buffer::ParseBuffer;
 use syn_parse::read::Read;
 use syn_parse::read::refusal::Parsed;
+use syn_recognize::Rule;
+use syn_recognize::depth::refuse_too_deep_by;
+use syn_tokens::error;
 use syn_tokens::ident::Ident;
 use syn_tokens::print::{Print, print_list};
 use syn_tokens::punctuated::Punctuated;
@@ -92,6 +95,11 @@ impl Read for DeriveInput {
             generics,
             shape,
         })
+    }
+
+    #[tactic(auto, unfolding(syn_recognize::specs::Names::rule_of))]
+    fn refuse_too_deep(input: &mut ParseBuffer<'_>) -> error::Result<()> {
+        refuse_too_deep_by(Rule::DERIVE_INPUT, input)
     }
 }
 

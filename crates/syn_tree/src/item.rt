@@ -28,6 +28,9 @@ use syn_lower::{Attribute, Generics};
 use syn_parse::buffer::ParseBuffer;
 use syn_parse::read::Read;
 use syn_parse::read::refusal::Parsed;
+use syn_recognize::Rule;
+use syn_recognize::depth::refuse_too_deep_by;
+use syn_tokens::error;
 use syn_tokens::ident::Ident;
 use syn_tokens::print::Print;
 use syn_tokens::punctuated::Punctuated;
@@ -90,6 +93,11 @@ impl Read for ItemEnum {
             variants: data.variants,
         })
     }
+
+    #[tactic(auto, unfolding(syn_recognize::specs::Names::rule_of))]
+    fn refuse_too_deep(input: &mut ParseBuffer<'_>) -> error::Result<()> {
+        refuse_too_deep_by(Rule::ENUMERATION, input)
+    }
 }
 
 /// An enum, after its attributes.
@@ -124,6 +132,11 @@ impl Read for ItemStruct {
             semi_token: data.semi_token,
         })
     }
+
+    #[tactic(auto, unfolding(syn_recognize::specs::Names::rule_of))]
+    fn refuse_too_deep(input: &mut ParseBuffer<'_>) -> error::Result<()> {
+        refuse_too_deep_by(Rule::STRUCTURE, input)
+    }
 }
 
 /// A struct, after its attributes.
@@ -155,6 +168,11 @@ impl Read for ItemUnion {
             generics,
             fields: data.fields,
         })
+    }
+
+    #[tactic(auto, unfolding(syn_recognize::specs::Names::rule_of))]
+    fn refuse_too_deep(input: &mut ParseBuffer<'_>) -> error::Result<()> {
+        refuse_too_deep_by(Rule::UNION_ITEM, input)
     }
 }
 

@@ -13,6 +13,7 @@ use syn_lower::parsing::module_path;
 use syn_parse::buffer::ParseBuffer;
 use syn_parse::read::Read;
 use syn_parse::read::refusal::Parsed;
+use syn_tokens::error::Result;
 use syn_tokens::syntactic::compare::Compared;
 use syn_tokens::token::{In, Paren, Pub, kind};
 
@@ -61,6 +62,10 @@ impl Read for Visibility {
             in_token,
             path: Box::new(input.alloc(), path)?,
         }))
+    }
+
+    fn refuse_too_deep(_input: &mut ParseBuffer<'_>) -> Result<()> {
+        Ok(())
     }
 }
 

@@ -13,7 +13,10 @@ use syn_expr::stmt::{Block, Stmt};
 use syn_parse::buffer::ParseBuffer;
 use syn_parse::read::Read;
 use syn_parse::read::refusal::Parsed;
+use syn_recognize::Rule;
 use syn_recognize::deferred::TreeOf;
+use syn_recognize::depth::refuse_too_deep_by;
+use syn_tokens::error;
 use syn_tokens::print::{Print, ToTokens};
 use syn_tokens::stream::builder::StreamBuilder;
 use syn_tokens::syntactic::Syntactic;
@@ -34,6 +37,11 @@ impl Read for NamedField {
 
     fn read(input: &mut ParseBuffer<'_>) -> Parsed<NamedField> {
         Ok(NamedField(Field::read_named(input)?))
+    }
+
+    #[tactic(auto, unfolding(syn_recognize::specs::Names::rule_of))]
+    fn refuse_too_deep(input: &mut ParseBuffer<'_>) -> error::Result<()> {
+        refuse_too_deep_by(Rule::NAMED_FIELD, input)
     }
 }
 
@@ -60,6 +68,11 @@ impl Read for UnnamedField {
 
     fn read(input: &mut ParseBuffer<'_>) -> Parsed<UnnamedField> {
         Ok(UnnamedField(Field::read_unnamed(input)?))
+    }
+
+    #[tactic(auto, unfolding(syn_recognize::specs::Names::rule_of))]
+    fn refuse_too_deep(input: &mut ParseBuffer<'_>) -> error::Result<()> {
+        refuse_too_deep_by(Rule::UNNAMED_FIELD, input)
     }
 }
 
@@ -88,6 +101,11 @@ impl Read for Stmts {
 
     fn read(input: &mut ParseBuffer<'_>) -> Parsed<Stmts> {
         Ok(Stmts(Block::read_within(input)?))
+    }
+
+    #[tactic(auto, unfolding(syn_recognize::specs::Names::rule_of))]
+    fn refuse_too_deep(input: &mut ParseBuffer<'_>) -> error::Result<()> {
+        refuse_too_deep_by(Rule::STATEMENTS, input)
     }
 }
 

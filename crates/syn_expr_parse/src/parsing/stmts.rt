@@ -18,7 +18,7 @@ ghost use Rattle.syn_expr_parse.specs.StatementForms.{after_attributes, followin
 ghost use Rattle.syn_recognize.specs.Trailing.{ends_by};
 
 use crate::parsing::blocks::{block_like, else_block};
-use crate::parsing::levels::operand_rest;
+use crate::parsing::levels::{operand_rest, whole_expression};
 use crate::parsing::nested::{Expr, LocalInit, Nested, Rung, Spot, Stmt};
 use crate::parsing::trailing::has_trailing_brace;
 use crate::trees::Trees;
@@ -43,8 +43,8 @@ pub(crate) enum Place {
 
 /// Statements to the end.
 #[tactic(auto, using(crate::proofs::Listed::all_read, crate::proofs::Listed::none_more))]
-pub(super) fn statements<N: Nested>(nested: &N, input: &mut ParseBuffer<'_>) -> Parsed<Vec<Stmt<N>>>
-    requires { MayHere N.may nested.now input.old }
+pub fn statements<N: Nested>(nested: &N, input: &mut ParseBuffer<'_>) -> Parsed<Vec<Stmt<N>>>
+    requires { MayBelow N.may nested.now input.old }
     ensures parses { MayParse IsSyntax (λ v. statements_of N.Trees.stmt_syntax v.items) rules.statements input.old result input.new }
 {
     let mut stmts = Vec::new(input.alloc());
@@ -58,7 +58,7 @@ pub(super) fn statements<N: Nested>(nested: &N, input: &mut ParseBuffer<'_>) -> 
 /// A statement in a list: `;` alone, or one that isn't empty.
 #[tactic(auto, unfolding(crate::specs::StatementForms::next_statement))]
 fn listed<N: Nested>(nested: &N, input: &mut ParseBuffer<'_>) -> Parsed<Stmt<N>>
-    requires { MayHere N.may nested.now input.old }
+    requires { MayBelow N.may nested.now input.old }
     ensures reads { Computes IsSyntax N.Trees.stmt_syntax (next_statement input.old) result input.new }
     ensures moved { Moved input.old result input.new }
 {
@@ -72,7 +72,7 @@ fn listed<N: Nested>(nested: &N, input: &mut ParseBuffer<'_>) -> Parsed<Stmt<N>>
 /// A statement alone.
 #[tactic(auto, using(crate::proofs::StatementLists::statement_alone))]
 pub fn statement<N: Nested>(nested: &N, input: &mut ParseBuffer<'_>) -> Parsed<Stmt<N>>
-    requires { MayHere N.may nested.now input.old }
+    requires { MayBelow N.may nested.now input.old }
     ensures parses { Parses IsSyntax (λ s. Node (N.Trees.stmt_syntax s)) rules.statement input.old result input.new }
     ensures moved { Moved input.old result input.new }
 {
@@ -82,7 +82,7 @@ pub fn statement<N: Nested>(nested: &N, input: &mut ParseBuffer<'_>) -> Parsed<S
 /// A statement with its attributes. After them it is seen whether it is an item, which is read with them.
 #[tactic(auto, unfolding(crate::specs::StatementForms::statement_by))]
 fn statement_in<N: Nested>(place: Place, nested: &N, input: &mut ParseBuffer<'_>) -> Parsed<Stmt<N>>
-    requires { MayHere N.may nested.now input.old }
+    requires { MayBelow N.may nested.now input.old }
     ensures reads { Computes IsSyntax N.Trees.stmt_syntax (statement_by (is_listed place) input.old) result input.new }
     ensures moved { Moved input.old result input.new }
 {
@@ -120,7 +120,6 @@ fn at_crate_item(input: &ParseBuffer<'_>) -> Parsed<bool>
     match macro_invocation(&mut following) {
         Ok(_) => Ok(at_postfix_mark(&following)),
         Err(Refusal::Memory(error)) => Err(Refusal::Memory(error)),
-        Err(Refusal::TooDeep(span)) => Err(Refusal::TooDeep(span)),
         Err(Refusal::Syntax { .. }) => Ok(false),
     }
 }
@@ -140,7 +139,7 @@ fn statement_after<N: Nested>(
     nested: &N,
     input: &mut ParseBuffer<'_>,
 ) -> Parsed<Stmt<N>>
-    requires may { MayHere N.may nested.now input.old }
+    requires may { MayBelow N.may nested.now input.old }
     requires outer { all_attributes_syntax attrs.items ≡ attributes_syntax attrs.items }
     ensures reads { Computes IsSyntax N.Trees.stmt_syntax (after_attributes (is_listed place) (attributes_syntax attrs.items) input.old) result input.new }
     ensures moved { Moved input.old result input.new }
@@ -174,7 +173,7 @@ fn crate_macro_statement<N: Nested>(
     nested: &N,
     input: &mut ParseBuffer<'_>,
 ) -> Parsed<Stmt<N>>
-    requires may { MayHere N.may nested.now input.old }
+    requires may { MayBelow N.may nested.now input.old }
     requires outer { all_attributes_syntax attrs.items ≡ attributes_syntax attrs.items }
     ensures reads { Computes IsSyntax N.Trees.stmt_syntax (crate_macro_statement_by (is_listed place) (attributes_syntax attrs.items) input.old) result input.new }
     ensures moved { Moved input.old result input.new }
@@ -193,7 +192,7 @@ fn macro_statement<N: Nested>(
     nested: &N,
     input: &mut ParseBuffer<'_>,
 ) -> Parsed<Stmt<N>>
-    requires may { MayHere N.may nested.now input.old }
+    requires may { MayBelow N.may nested.now input.old }
     requires outer { all_attributes_syntax attrs.items ≡ attributes_syntax attrs.items }
     ensures reads { Computes IsSyntax N.Trees.stmt_syntax (macro_statement_by (is_listed place) (attributes_syntax attrs.items) input.old) result input.new }
     ensures moved { Moved input.old result input.new }
@@ -209,7 +208,7 @@ fn expression_statement<N: Nested>(
     nested: &N,
     input: &mut ParseBuffer<'_>,
 ) -> Parsed<Stmt<N>>
-    requires may { MayHere N.may nested.now input.old }
+    requires may { MayBelow N.may nested.now input.old }
     requires outer { all_attributes_syntax attrs.items ≡ attributes_syntax attrs.items }
     ensures reads { Computes IsSyntax N.Trees.stmt_syntax (expression_statement_by (is_listed place) (attributes_syntax attrs.items) input.old) result input.new }
     ensures moved { Moved input.old result input.new }
@@ -218,7 +217,7 @@ fn expression_statement<N: Nested>(
         let expr = block_like(nested, input)?;
         statement_of_block(place, false, attrs, expr, nested, input)
     } else {
-        let expr = nested.expr(Rung::Whole(Spot::Anywhere), input)?;
+        let expr = whole_expression(Spot::Anywhere, nested, input)?;
         statement_of_expression::<N>(place, false, attrs, expr, input)
     }
 }
@@ -232,7 +231,7 @@ fn statement_of_block<N: Nested>(
     nested: &N,
     input: &mut ParseBuffer<'_>,
 ) -> Parsed<Stmt<N>>
-    requires may { MayHere N.may nested.now input.old }
+    requires may { MayBelow N.may nested.now input.old }
     requires outer { all_attributes_syntax attrs.items ≡ attributes_syntax attrs.items }
     requires shown { spine_shown (N.Trees.expr_syntax expr.value) ≡ true }
     ensures reads { Computes IsSyntax N.Trees.stmt_syntax (following_block (is_listed place) braces (attributes_syntax attrs.items) (N.Trees.expr_syntax expr.value) input.old) result input.new }

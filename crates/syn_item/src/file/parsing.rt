@@ -8,6 +8,9 @@ use syn_lower::attr::inner_attributes;
 use syn_parse::buffer::ParseBuffer;
 use syn_parse::read::Read;
 use syn_parse::read::refusal::Parsed;
+use syn_recognize::Rule;
+use syn_recognize::depth::refuse_too_deep_by;
+use syn_tokens::error::Result;
 
 /// Inner attributes and items, to the end. Neither a first line nor a frontmatter is read.
 ///
@@ -27,5 +30,10 @@ impl Read for File {
             attrs: inner_attributes(input)?,
             items: members(input)?,
         })
+    }
+
+    #[tactic(auto, unfolding(syn_recognize::specs::Names::rule_of))]
+    fn refuse_too_deep(input: &mut ParseBuffer<'_>) -> Result<()> {
+        refuse_too_deep_by(Rule::FILE, input)
     }
 }

@@ -32,8 +32,10 @@ use syn_parse::buffer::ParseBuffer;
 use syn_parse::read::Read;
 use syn_parse::read::refusal::Parsed;
 use syn_recognize::Rule;
+use syn_recognize::depth::refuse_too_deep_by;
 use syn_recognize::item_looks::{is_before_colons, is_before_macro};
 use syn_recognize::looks::at_empty_group;
+use syn_tokens::error::Result;
 use syn_tokens::ident::Ident;
 use syn_tokens::token;
 use syn_tokens::token::{
@@ -58,6 +60,11 @@ impl Read for ForeignItem {
             Ok(None) => Ok(ForeignItem::Verbatim(kept_tokens(Rule::FOREIGN_ITEM, &start, input)?)),
             Err(refusal) => Err(refusal),
         }
+    }
+
+    #[tactic(auto, unfolding(syn_recognize::specs::Names::rule_of))]
+    fn refuse_too_deep(input: &mut ParseBuffer<'_>) -> Result<()> {
+        refuse_too_deep_by(Rule::FOREIGN_ITEM, input)
     }
 }
 
@@ -228,6 +235,11 @@ impl Read for ForeignItemFn {
         let sig = foreign_signature(input)?;
         after_foreign_signature(attrs, vis, sig, input)
     }
+
+    #[tactic(auto, unfolding(syn_recognize::specs::Names::rule_of))]
+    fn refuse_too_deep(input: &mut ParseBuffer<'_>) -> Result<()> {
+        refuse_too_deep_by(Rule::FOREIGN_FUNCTION, input)
+    }
 }
 
 /// A foreign static without its attributes, its visibility and its `;`.
@@ -293,6 +305,11 @@ impl Read for ForeignItemStatic {
         let semi_token = input.read()?;
         Ok(whole_static(attrs, vis, bare, semi_token))
     }
+
+    #[tactic(auto, unfolding(syn_recognize::specs::Names::rule_of))]
+    fn refuse_too_deep(input: &mut ParseBuffer<'_>) -> Result<()> {
+        refuse_too_deep_by(Rule::FOREIGN_STATIC, input)
+    }
 }
 
 /// Attributes, a visibility, `type`, a name, generics, a where clause and `;`.
@@ -313,6 +330,11 @@ impl Read for ForeignItemType {
         let head = (type_token, ident, generics);
         Ok(whole_type(attrs, vis, head, clause, semi_token))
     }
+
+    #[tactic(auto, unfolding(syn_recognize::specs::Names::rule_of))]
+    fn refuse_too_deep(input: &mut ParseBuffer<'_>) -> Result<()> {
+        refuse_too_deep_by(Rule::FOREIGN_TYPE, input)
+    }
 }
 
 /// Attributes, and a macro of any path.
@@ -325,6 +347,10 @@ impl Read for ForeignItemMacro {
     fn read(input: &mut ParseBuffer<'_>) -> Parsed<ForeignItemMacro> {
         let attrs = outer_attributes(input)?;
         foreign_macro(attrs, input)
+    }
+
+    fn refuse_too_deep(_input: &mut ParseBuffer<'_>) -> Result<()> {
+        Ok(())
     }
 }
 

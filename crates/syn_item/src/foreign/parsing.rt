@@ -13,6 +13,9 @@ use syn_lower::attr::outer_attributes;
 use syn_parse::buffer::ParseBuffer;
 use syn_parse::read::Read;
 use syn_parse::read::refusal::Parsed;
+use syn_recognize::Rule;
+use syn_recognize::depth::refuse_too_deep_by;
+use syn_tokens::error::Result;
 
 /// Attributes, perhaps `unsafe`, an ABI, and inner attributes and members in braces.
 impl Read for ItemForeignMod {
@@ -24,6 +27,11 @@ impl Read for ItemForeignMod {
     fn read(input: &mut ParseBuffer<'_>) -> Parsed<ItemForeignMod> {
         let attrs = outer_attributes(input)?;
         foreign_module_rest(attrs, input)
+    }
+
+    #[tactic(auto, unfolding(syn_recognize::specs::Names::rule_of))]
+    fn refuse_too_deep(input: &mut ParseBuffer<'_>) -> Result<()> {
+        refuse_too_deep_by(Rule::FOREIGN_MODULE, input)
     }
 }
 

@@ -16,6 +16,9 @@ use syn_lower::attr::outer_attributes;
 use syn_parse::buffer::ParseBuffer;
 use syn_parse::read::Read;
 use syn_parse::read::refusal::Parsed;
+use syn_recognize::Rule;
+use syn_recognize::depth::refuse_too_deep_by;
+use syn_tokens::error::Result;
 use syn_tree::item::FnModifiers;
 use syn_tree::restriction::Visibility;
 
@@ -31,6 +34,11 @@ impl Read for ItemFn {
     fn read(input: &mut ParseBuffer<'_>) -> Parsed<ItemFn> {
         let attrs = outer_attributes(input)?;
         function_rest(attrs, input)
+    }
+
+    #[tactic(auto, unfolding(syn_recognize::specs::Names::rule_of))]
+    fn refuse_too_deep(input: &mut ParseBuffer<'_>) -> Result<()> {
+        refuse_too_deep_by(Rule::FUNCTION, input)
     }
 }
 

@@ -30,8 +30,10 @@ use syn_parse::buffer::ParseBuffer;
 use syn_parse::read::Read;
 use syn_parse::read::refusal::Parsed;
 use syn_recognize::Rule;
+use syn_recognize::depth::refuse_too_deep_by;
 use syn_recognize::item_looks::{at_no_macro_item, is_before_macro};
 use syn_recognize::looks::at_empty_group;
+use syn_tokens::error::Result;
 use syn_tokens::ident::Ident;
 use syn_tokens::token;
 use syn_tokens::token::{Const, Default, Eq, Lt, Pub, Semi};
@@ -75,6 +77,11 @@ impl Read for ImplItem {
             Ok(None) => Ok(ImplItem::Verbatim(kept_tokens(Rule::IMPL_ITEM, &start, input)?)),
             Err(refusal) => Err(refusal),
         }
+    }
+
+    #[tactic(auto, unfolding(syn_recognize::specs::Names::rule_of))]
+    fn refuse_too_deep(input: &mut ParseBuffer<'_>) -> Result<()> {
+        refuse_too_deep_by(Rule::IMPL_ITEM, input)
     }
 }
 
@@ -233,6 +240,11 @@ impl Read for ImplItemConst {
         let head = const_head(input)?;
         impl_const_rest(marks, head, input)
     }
+
+    #[tactic(auto, unfolding(syn_recognize::specs::Names::rule_of))]
+    fn refuse_too_deep(input: &mut ParseBuffer<'_>) -> Result<()> {
+        refuse_too_deep_by(Rule::IMPL_CONST, input)
+    }
 }
 
 /// A constant of an impl, after its name: `:`, a type, `=`, an expression and `;`.
@@ -274,6 +286,11 @@ impl Read for ImplItemFn {
         let sig = input.read()?;
         impl_function(marks, sig, input)
     }
+
+    #[tactic(auto, unfolding(syn_recognize::specs::Names::rule_of))]
+    fn refuse_too_deep(input: &mut ParseBuffer<'_>) -> Result<()> {
+        refuse_too_deep_by(Rule::IMPL_FUNCTION, input)
+    }
 }
 
 /// Attributes, a visibility, perhaps `default`, `type`, a name, generics, `=`, a type, a where clause and `;`.
@@ -287,6 +304,11 @@ impl Read for ImplItemType {
         let marks = member_marks(input)?;
         let head = type_head(input)?;
         impl_type_rest(marks, head, input)
+    }
+
+    #[tactic(auto, unfolding(syn_recognize::specs::Names::rule_of))]
+    fn refuse_too_deep(input: &mut ParseBuffer<'_>) -> Result<()> {
+        refuse_too_deep_by(Rule::IMPL_TYPE, input)
     }
 }
 
@@ -328,6 +350,10 @@ impl Read for ImplItemMacro {
     fn read(input: &mut ParseBuffer<'_>) -> Parsed<ImplItemMacro> {
         let attrs = outer_attributes(input)?;
         impl_macro(attrs, input)
+    }
+
+    fn refuse_too_deep(_input: &mut ParseBuffer<'_>) -> Result<()> {
+        Ok(())
     }
 }
 

@@ -28,8 +28,11 @@ use syn_lower::{Attribute, Generics, Path, Type, TypeNever, TypePath, WhereClaus
 use syn_parse::buffer::ParseBuffer;
 use syn_parse::read::refusal::{Parsed, Refusal};
 use syn_parse::read::{Peek, Read};
+use syn_recognize::Rule;
+use syn_recognize::depth::refuse_too_deep_by;
 use syn_recognize::item_looks::at_generics;
 use syn_recognize::looks::at_path_word;
+use syn_tokens::error::Result;
 use syn_tokens::span::Span;
 use syn_tokens::token::{Brace, Const, Default, For, Impl, Not, PathSep, Unsafe};
 use syn_tree::item::ImplModifiers;
@@ -64,6 +67,11 @@ impl Read for ItemImpl {
     fn read(input: &mut ParseBuffer<'_>) -> Parsed<ItemImpl> {
         let attrs = outer_attributes(input)?;
         impl_definition_rest(attrs, input)
+    }
+
+    #[tactic(auto, unfolding(syn_recognize::specs::Names::rule_of))]
+    fn refuse_too_deep(input: &mut ParseBuffer<'_>) -> Result<()> {
+        refuse_too_deep_by(Rule::IMPL_DEFINITION, input)
     }
 }
 
@@ -114,7 +122,6 @@ fn reported(refusal: Refusal, is_odd: bool, first: Span) -> Refusal
     }
     match refusal {
         Refusal::Memory(error) => Refusal::Memory(error),
-        Refusal::TooDeep(span) => Refusal::TooDeep(span),
         Refusal::Syntax { span: _, text: _ } => Refusal::Syntax {
             span: first,
             text: "expected trait path",
@@ -205,7 +212,6 @@ fn for_after_bang(bang_token: Not, input: &mut ParseBuffer<'_>) -> Parsed<For>
     match input.read() {
         Ok(for_token) => Ok(for_token),
         Err(Refusal::Memory(error)) => Err(Refusal::Memory(error)),
-        Err(Refusal::TooDeep(span)) => Err(Refusal::TooDeep(span)),
         Err(Refusal::Syntax { span: _, text: _ }) => Err(Refusal::Syntax {
             span: bang_token.spans[0],
             text: "inherent impls cannot be negative",

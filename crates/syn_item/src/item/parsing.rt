@@ -30,8 +30,10 @@ use syn_parse::buffer::ParseBuffer;
 use syn_parse::read::Read;
 use syn_parse::read::refusal::Parsed;
 use syn_recognize::Rule;
+use syn_recognize::depth::refuse_too_deep_by;
 use syn_recognize::item_looks::{at_auto, at_union, is_before_macro};
 use syn_recognize::looks::at_empty_group;
+use syn_tokens::error::Result;
 use syn_tokens::token;
 use syn_tokens::token::{
     Async, Const, Default, Enum, Extern, Fn, Impl, Mod, Pub, Static, Struct, Trait, Type, Unsafe,
@@ -101,6 +103,11 @@ impl Read for Item {
             Ok(None) => Ok(Item::Verbatim(kept_tokens(Rule::ITEM, &start, input)?)),
             Err(refusal) => Err(refusal),
         }
+    }
+
+    #[tactic(auto, unfolding(syn_recognize::specs::Names::rule_of))]
+    fn refuse_too_deep(input: &mut ParseBuffer<'_>) -> Result<()> {
+        refuse_too_deep_by(Rule::ITEM, input)
     }
 }
 

@@ -23,7 +23,10 @@ use syn_parse::buffer::ParseBuffer;
 use syn_parse::read::Read;
 use syn_parse::read::refusal::{Parsed, Refusal};
 use syn_pat::{Pat, PatType, PatWild};
+use syn_recognize::Rule;
+use syn_recognize::depth::refuse_too_deep_by;
 use syn_recognize::item_looks::{at_receiver, at_unnamed};
+use syn_tokens::error::Result;
 use syn_tokens::lifetime::Lifetime;
 use syn_tokens::punctuated::Punctuated;
 use syn_tokens::span::Span;
@@ -233,6 +236,11 @@ impl Read for Receiver {
         }
         receiver(Vec::new(input.alloc()), input)
     }
+
+    #[tactic(auto, unfolding(syn_recognize::specs::Names::rule_of))]
+    fn refuse_too_deep(input: &mut ParseBuffer<'_>) -> Result<()> {
+        refuse_too_deep_by(Rule::RECEIVER, input)
+    }
 }
 
 /// Attributes, and a receiver, or a pattern, a colon and a type. If a name precedes `<`, the type is alone, and `_` and `:` are
@@ -250,6 +258,11 @@ impl Read for FnArg {
         } else {
             Ok(FnArg::Typed(typed(attrs, input)?))
         }
+    }
+
+    #[tactic(auto, unfolding(syn_recognize::specs::Names::rule_of))]
+    fn refuse_too_deep(input: &mut ParseBuffer<'_>) -> Result<()> {
+        refuse_too_deep_by(Rule::ARGUMENT, input)
     }
 }
 

@@ -24,6 +24,8 @@ use syn_lower::{Generics, ReturnType, WhereClause};
 use syn_parse::buffer::ParseBuffer;
 use syn_parse::read::refusal::Parsed;
 use syn_parse::read::{Peek, Read};
+use syn_recognize::Rule;
+use syn_recognize::depth::refuse_too_deep_by;
 use syn_recognize::item_looks::at_str;
 use syn_tokens::error::Result;
 use syn_tokens::ident::Ident;
@@ -58,6 +60,11 @@ impl Read for Signature {
             abi: input.read()?,
         };
         signature_rest(qualifiers, input)
+    }
+
+    #[tactic(auto, unfolding(syn_recognize::specs::Names::rule_of))]
+    fn refuse_too_deep(input: &mut ParseBuffer<'_>) -> Result<()> {
+        refuse_too_deep_by(Rule::SIGNATURE, input)
     }
 }
 
@@ -167,6 +174,10 @@ impl Read for Abi {
             extern_token: input.read()?,
             name: string(input)?,
         })
+    }
+
+    fn refuse_too_deep(_input: &mut ParseBuffer<'_>) -> Result<()> {
+        Ok(())
     }
 }
 

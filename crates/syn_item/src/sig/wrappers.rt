@@ -10,6 +10,7 @@ use std::alloc::AllocError;
 use syn_parse::buffer::ParseBuffer;
 use syn_parse::read::Read;
 use syn_parse::read::refusal::Parsed;
+use syn_tokens::error;
 use syn_tokens::print::{Print, ToTokens};
 use syn_tokens::stream::builder::StreamBuilder;
 use syn_tokens::syntactic::Syntactic;
@@ -31,6 +32,10 @@ impl Read for SafeOrUnsafe {
 
     fn read(input: &mut ParseBuffer<'_>) -> Parsed<SafeOrUnsafe> {
         Ok(SafeOrUnsafe(safe_or_unsafe(input)))
+    }
+
+    fn refuse_too_deep(_input: &mut ParseBuffer<'_>) -> error::Result<()> {
+        Ok(())
     }
 }
 
@@ -59,6 +64,10 @@ impl Read for UnsafeOnly {
 
     fn read(input: &mut ParseBuffer<'_>) -> Parsed<UnsafeOnly> {
         Ok(UnsafeOnly(unsafe_only(input)))
+    }
+
+    fn refuse_too_deep(_input: &mut ParseBuffer<'_>) -> error::Result<()> {
+        Ok(())
     }
 }
 

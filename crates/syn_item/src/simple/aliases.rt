@@ -26,6 +26,9 @@ use syn_parse::buffer::ParseBuffer;
 use syn_parse::read::lists::punctuated_list;
 use syn_parse::read::refusal::Parsed;
 use syn_parse::read::{Peek, Read};
+use syn_recognize::Rule;
+use syn_recognize::depth::refuse_too_deep_by;
+use syn_tokens::error::Result;
 use syn_tokens::ident::Ident;
 use syn_tokens::punctuated::Punctuated;
 use syn_tokens::token::{self, Eq, Plus, Semi, Where};
@@ -44,6 +47,11 @@ impl Read for ItemType {
     fn read(input: &mut ParseBuffer<'_>) -> Parsed<ItemType> {
         let attrs = outer_attributes(input)?;
         type_rest(attrs, input)
+    }
+
+    #[tactic(auto, unfolding(syn_recognize::specs::Names::rule_of))]
+    fn refuse_too_deep(input: &mut ParseBuffer<'_>) -> Result<()> {
+        refuse_too_deep_by(Rule::TYPE_ITEM, input)
     }
 }
 
@@ -203,6 +211,11 @@ impl Read for ItemTraitAlias {
     fn read(input: &mut ParseBuffer<'_>) -> Parsed<ItemTraitAlias> {
         let attrs = outer_attributes(input)?;
         trait_alias_rest(attrs, input)
+    }
+
+    #[tactic(auto, unfolding(syn_recognize::specs::Names::rule_of))]
+    fn refuse_too_deep(input: &mut ParseBuffer<'_>) -> Result<()> {
+        refuse_too_deep_by(Rule::TRAIT_ALIAS, input)
     }
 }
 

@@ -22,6 +22,7 @@ use syn_parse::read::refusal::Parsed;
 use syn_pat::Macro;
 use syn_pat::parsing::{any_group, bang};
 use syn_recognize::item_looks::{at_macro_name, at_no_macro_item};
+use syn_tokens::error::Result;
 use syn_tokens::ident::Ident;
 use syn_tokens::stream::TokenStream;
 use syn_tokens::token::Semi;
@@ -39,6 +40,10 @@ impl Read for ItemMacro {
     fn read(input: &mut ParseBuffer<'_>) -> Parsed<ItemMacro> {
         let attrs = outer_attributes(input)?;
         macro_rest(attrs, input)
+    }
+
+    fn refuse_too_deep(_input: &mut ParseBuffer<'_>) -> Result<()> {
+        Ok(())
     }
 }
 

@@ -24,6 +24,7 @@ use syn_parse::buffer::ParseBuffer;
 use syn_parse::read::Read;
 use syn_parse::read::refusal::Parsed;
 use syn_recognize::deferred::{DeferredItems, read_deferred_rest};
+use syn_tokens::error::Result;
 use syn_tokens::ident::Ident;
 use syn_tokens::token::{As, Brace, Semi, Unsafe, kind};
 use syn_tree::restriction::Visibility;
@@ -38,6 +39,10 @@ impl Read for ItemExternCrate {
     fn read(input: &mut ParseBuffer<'_>) -> Parsed<ItemExternCrate> {
         let attrs = outer_attributes(input)?;
         extern_crate_rest(attrs, input)
+    }
+
+    fn refuse_too_deep(_input: &mut ParseBuffer<'_>) -> Result<()> {
+        Ok(())
     }
 }
 
@@ -98,6 +103,10 @@ impl Read for ItemMod {
     fn read(input: &mut ParseBuffer<'_>) -> Parsed<ItemMod> {
         let attrs = outer_attributes(input)?;
         module_rest(attrs, input)
+    }
+
+    fn refuse_too_deep(_input: &mut ParseBuffer<'_>) -> Result<()> {
+        Ok(())
     }
 }
 

@@ -23,7 +23,9 @@ use syn_lower::{Attribute, Generics, Type};
 use syn_parse::buffer::ParseBuffer;
 use syn_parse::read::Read;
 use syn_parse::read::refusal::Parsed;
+use syn_recognize::Rule;
 use syn_recognize::deferred::DeferredExpr;
+use syn_recognize::depth::refuse_too_deep_by;
 use syn_tokens::error::Result;
 use syn_tokens::token::{Colon, Eq, Semi, kind};
 use syn_tree::item::ConstModifiers;
@@ -41,6 +43,11 @@ impl Read for ItemConst {
     fn read(input: &mut ParseBuffer<'_>) -> Parsed<ItemConst> {
         let attrs = outer_attributes(input)?;
         const_rest(attrs, input)
+    }
+
+    #[tactic(auto, unfolding(syn_recognize::specs::Names::rule_of))]
+    fn refuse_too_deep(input: &mut ParseBuffer<'_>) -> Result<()> {
+        refuse_too_deep_by(Rule::CONST_ITEM, input)
     }
 }
 
@@ -105,6 +112,11 @@ impl Read for ItemStatic {
     fn read(input: &mut ParseBuffer<'_>) -> Parsed<ItemStatic> {
         let attrs = outer_attributes(input)?;
         static_rest(attrs, input)
+    }
+
+    #[tactic(auto, unfolding(syn_recognize::specs::Names::rule_of))]
+    fn refuse_too_deep(input: &mut ParseBuffer<'_>) -> Result<()> {
+        refuse_too_deep_by(Rule::STATIC_ITEM, input)
     }
 }
 
@@ -181,5 +193,9 @@ impl Read for StaticMutability {
 
     fn read(input: &mut ParseBuffer<'_>) -> Parsed<StaticMutability> {
         Ok(static_mutability(input))
+    }
+
+    fn refuse_too_deep(_input: &mut ParseBuffer<'_>) -> Result<()> {
+        Ok(())
     }
 }

@@ -35,7 +35,9 @@ use syn_parse::read::Read;
 use syn_parse::read::refusal::Parsed;
 use syn_recognize::Rule;
 use syn_recognize::deferred::DeferredBlock;
+use syn_recognize::depth::refuse_too_deep_by;
 use syn_recognize::looks::at_empty_group;
+use syn_tokens::error::Result;
 use syn_tokens::ident::Ident;
 use syn_tokens::token;
 use syn_tokens::token::{Auto, Const, Default, Lt, Pub, SelfType, Semi, Trait, Unsafe};
@@ -72,6 +74,11 @@ impl Read for ItemTrait {
     fn read(input: &mut ParseBuffer<'_>) -> Parsed<ItemTrait> {
         let attrs = outer_attributes(input)?;
         trait_definition_rest(attrs, input)
+    }
+
+    #[tactic(auto, unfolding(syn_recognize::specs::Names::rule_of))]
+    fn refuse_too_deep(input: &mut ParseBuffer<'_>) -> Result<()> {
+        refuse_too_deep_by(Rule::TRAIT_DEFINITION, input)
     }
 }
 
@@ -185,6 +192,11 @@ impl Read for TraitItem {
             Err(refusal) => Err(refusal),
         }
     }
+
+    #[tactic(auto, unfolding(syn_recognize::specs::Names::rule_of))]
+    fn refuse_too_deep(input: &mut ParseBuffer<'_>) -> Result<()> {
+        refuse_too_deep_by(Rule::TRAIT_ITEM, input)
+    }
 }
 
 /// A member of a trait, after its attributes; `None` where it is kept verbatim.
@@ -267,6 +279,11 @@ impl Read for TraitItemConst {
             semi_token: input.read()?,
         })
     }
+
+    #[tactic(auto, unfolding(syn_recognize::specs::Names::rule_of))]
+    fn refuse_too_deep(input: &mut ParseBuffer<'_>) -> Result<()> {
+        refuse_too_deep_by(Rule::TRAIT_CONST, input)
+    }
 }
 
 /// Attributes, a signature, and `;` or a body.
@@ -279,6 +296,11 @@ impl Read for TraitItemFn {
     fn read(input: &mut ParseBuffer<'_>) -> Parsed<TraitItemFn> {
         let attrs = outer_attributes(input)?;
         trait_function(attrs, input)
+    }
+
+    #[tactic(auto, unfolding(syn_recognize::specs::Names::rule_of))]
+    fn refuse_too_deep(input: &mut ParseBuffer<'_>) -> Result<()> {
+        refuse_too_deep_by(Rule::TRAIT_FUNCTION, input)
     }
 }
 
@@ -340,6 +362,11 @@ impl Read for TraitItemType {
         let attrs = outer_attributes(input)?;
         trait_type(attrs, input)
     }
+
+    #[tactic(auto, unfolding(syn_recognize::specs::Names::rule_of))]
+    fn refuse_too_deep(input: &mut ParseBuffer<'_>) -> Result<()> {
+        refuse_too_deep_by(Rule::TRAIT_TYPE, input)
+    }
 }
 
 /// A type of a trait, after its attributes.
@@ -377,6 +404,10 @@ impl Read for TraitItemMacro {
     fn read(input: &mut ParseBuffer<'_>) -> Parsed<TraitItemMacro> {
         let attrs = outer_attributes(input)?;
         trait_macro(attrs, input)
+    }
+
+    fn refuse_too_deep(_input: &mut ParseBuffer<'_>) -> Result<()> {
+        Ok(())
     }
 }
 

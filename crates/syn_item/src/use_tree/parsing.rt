@@ -25,10 +25,12 @@ use syn_lower::Attribute;
 use syn_lower::attr::outer_attributes;
 use syn_lower::carrier::Carrier;
 use syn_parse::buffer::ParseBuffer;
-use syn_parse::limits::USE_TREE;
 use syn_parse::read::lists::punctuated_list;
 use syn_parse::read::refusal::{Parsed, Refusal};
 use syn_parse::read::{End, Read};
+use syn_recognize::Rule;
+use syn_recognize::depth::refuse_too_deep_by;
+use syn_tokens::error::Result;
 use syn_tokens::ident::Ident;
 use syn_tokens::punctuated::Punctuated;
 use syn_tokens::token::{As, Brace, Comma, PathSep, Star, kind};
@@ -46,6 +48,11 @@ impl Read for ItemUse {
     fn read(input: &mut ParseBuffer<'_>) -> Parsed<ItemUse> {
         let attrs = outer_attributes(input)?;
         use_rest(attrs, input)
+    }
+
+    #[tactic(auto, unfolding(syn_recognize::specs::Names::rule_of))]
+    fn refuse_too_deep(input: &mut ParseBuffer<'_>) -> Result<()> {
+        refuse_too_deep_by(Rule::USE_ITEM, input)
     }
 }
 
@@ -119,7 +126,6 @@ fn braced(input: &mut ParseBuffer<'_>) -> Parsed<UseTree>
             Ok(tree)
         }
         Err(Refusal::Memory(error)) => Err(Refusal::Memory(error)),
-        Err(Refusal::TooDeep(span)) => Err(Refusal::TooDeep(span)),
         Err(Refusal::Syntax { span: _, text: _ }) => Err(fault_in_braces(input)),
     }
 }
@@ -136,21 +142,18 @@ fn fault_in_braces(input: &mut ParseBuffer<'_>) -> Refusal {
 /// Trees in braces, with `::` before each or without it.
 fn rooted_group(input: &mut ParseBuffer<'_>) -> Parsed<()> {
     let (_brace_token, mut content) = input.read_group::<kind::Brace>()?;
-    rooted_trees(&mut content, input.stack_left())
+    rooted_trees(&mut content)
 }
 
-/// Such trees with commas between them, up to the end, for which so many KiB of stack are left.
+/// Such trees with commas between them, up to the end.
 #[cycle(rooted_trees)]
-fn rooted_trees(input: &mut ParseBuffer<'_>, inside: u32) -> Parsed<()> {
-    let Some(left) = inside.checked_sub(USE_TREE) else {
-        return Err(Refusal::TooDeep(input.span()));
-    };
+fn rooted_trees(input: &mut ParseBuffer<'_>) -> Parsed<()> {
     'trees: while !input.is_empty() {
         if input.peek::<Brace>() {
             let (_brace_token, mut content) = input.read_group::<kind::Brace>()?;
-            rooted_trees(&mut content, left)?;
+            rooted_trees(&mut content)?;
         } else {
-            unbraced_tree(input, left)?;
+            unbraced_tree(input)?;
         }
         if !input.peek::<Comma>() {
             return input.read_end();
@@ -161,11 +164,11 @@ fn rooted_trees(input: &mut ParseBuffer<'_>, inside: u32) -> Parsed<()> {
 }
 
 /// A tree that doesn't begin with a brace, with `::` before it or without it.
-fn unbraced_tree(input: &mut ParseBuffer<'_>, inside: u32) -> Parsed<()>
+fn unbraced_tree(input: &mut ParseBuffer<'_>) -> Parsed<()>
     ensures moved { Moved input.old result input.new }
 {
     let _sign: Option<PathSep> = input.read()?;
-    let _tree = nested_tree::<Refusal>(input, (inside, PhantomData))?;
+    let _tree = nested_tree::<Refusal>(input, PhantomData)?;
     Ok(())
 }
 
@@ -272,7 +275,6 @@ fn other_name(input: &mut ParseBuffer<'_>) -> Parsed<Ident>
     match name_or::<OrUnderscore>(input) {
         Ok(ident) => Ok(ident),
         Err(Refusal::Memory(error)) => Err(Refusal::Memory(error)),
-        Err(Refusal::TooDeep(span)) => Err(Refusal::TooDeep(span)),
         Err(Refusal::Syntax { span, text: _ }) => Err(Refusal::Syntax {
             span,
             text: "expected identifier or underscore",
@@ -280,24 +282,21 @@ fn other_name(input: &mut ParseBuffer<'_>) -> Parsed<Ident>
     }
 }
 
-/// How many KiB of stack are left, and what carries a refusal.
-type Inside<E> = (u32, PhantomData<E>);
-
-/// The function that parses a nested tree, and the stack that is left for it.
+/// The function that parses a nested tree, and what carries its refusal.
 #[derive(Drop)]
 struct Knot<E, T> {
     tree: T,
-    inside: Inside<E>,
+    carrier: PhantomData<E>,
 }
 
 impl<
     E: Carrier,
-    T: Fn(&mut ParseBuffer<'_>, Inside<E>) -> std::result::Result<UseTree, E>,
+    T: Fn(&mut ParseBuffer<'_>, PhantomData<E>) -> std::result::Result<UseTree, E>,
 > NestedTree for Knot<E, T> {
     ghost may = { λ k ts. Ties E.is_syntax syntax_of_UseTree rules.use_tree ts (T.pre k.tree) (T.post k.tree) };
 
     fn tree(&self, input: &mut ParseBuffer<'_>) -> Parsed<UseTree> {
-        match (self.tree)(input, (self.inside.0, PhantomData)) {
+        match (self.tree)(input, PhantomData) {
             Ok(value) => Ok(value),
             Err(carried) => Err(carried.refusal()),
         }
@@ -308,16 +307,13 @@ impl<
 #[cycle(use_tree_knot)]
 fn nested_tree<E: Carrier>(
     input: &mut ParseBuffer<'_>,
-    inside: Inside<E>,
+    carrier: PhantomData<E>,
 ) -> std::result::Result<UseTree, E>
     ensures parses { Parses E.is_syntax syntax_of_UseTree rules.use_tree input.old result input.new }
 {
-    let Some(left) = inside.0.checked_sub(USE_TREE) else {
-        return Err(E::carry(Refusal::TooDeep(input.span())));
-    };
     let knot = Knot {
         tree: nested_tree::<E>,
-        inside: (left, inside.1),
+        carrier,
     };
     match tree(&knot, input) {
         Ok(value) => Ok(value),
@@ -327,15 +323,18 @@ fn nested_tree<E: Carrier>(
 
 /// `*`; trees in braces; or a name, `self`, `super`, `crate` or `try`, followed by `::` and a tree, with `as` and a name or `_`, or alone.
 ///
-/// Where neither a name nor `_` follows `as`, the fault is `expected identifier or underscore`. What is nested too deep for the stack
-/// is refused as memory is.
+/// Where neither a name nor `_` follows `as`, the fault is `expected identifier or underscore`.
 impl Read for UseTree {
     ghost form = { of (rule rules.use_tree) };
 
     ghost meaning = { meaning_of_rule rules.use_tree };
 
     fn read(input: &mut ParseBuffer<'_>) -> Parsed<UseTree> {
-        let left = input.stack_left();
-        nested_tree::<Refusal>(input, (left, PhantomData))
+        nested_tree::<Refusal>(input, PhantomData)
+    }
+
+    #[tactic(auto, unfolding(syn_recognize::specs::Names::rule_of))]
+    fn refuse_too_deep(input: &mut ParseBuffer<'_>) -> Result<()> {
+        refuse_too_deep_by(Rule::USE_TREE, input)
     }
 }

@@ -22,6 +22,9 @@ use crate::{
 use syn_parse::buffer::ParseBuffer;
 use syn_parse::read::Read;
 use syn_parse::read::refusal::Parsed;
+use syn_recognize::Rule;
+use syn_recognize::depth::refuse_too_deep_by;
+use syn_tokens::error::Result;
 use syn_tokens::lifetime::Lifetime;
 use syn_tokens::punctuated::Punctuated;
 use syn_tokens::token::{Colon, Comma, Const, Eq, Gt, Lt, Plus};
@@ -36,6 +39,10 @@ impl Read for LifetimeParam {
     fn read(input: &mut ParseBuffer<'_>) -> Parsed<LifetimeParam> {
         let attrs = outer_attributes(input)?;
         lifetime_param(attrs, input)
+    }
+
+    fn refuse_too_deep(_input: &mut ParseBuffer<'_>) -> Result<()> {
+        Ok(())
     }
 }
 
@@ -166,6 +173,11 @@ impl Read for Generics {
 
     fn read(input: &mut ParseBuffer<'_>) -> Parsed<Generics> {
         Generics::read_params(input)
+    }
+
+    #[tactic(auto, unfolding(syn_recognize::specs::Names::rule_of))]
+    fn refuse_too_deep(input: &mut ParseBuffer<'_>) -> Result<()> {
+        refuse_too_deep_by(Rule::GENERICS, input)
     }
 }
 

@@ -19,26 +19,26 @@ use crate::carrier::Carrier;
 use crate::{AngleBracketedGenericArguments, Path, PathArguments, ReturnType, Type, TypePath};
 use std::marker::PhantomData;
 use syn_parse::buffer::ParseBuffer;
-use syn_parse::limits::TYPE;
 use syn_parse::read::Read;
 use syn_parse::read::refusal::{Parsed, Refusal};
+use syn_recognize::Rule;
+use syn_recognize::depth::refuse_too_deep_by;
+use syn_tokens::error::Result;
+use syn_tokens::token::Paren;
 
-/// How many KiB of stack are left, and what carries a refusal.
-type Inside<E> = (u32, PhantomData<E>);
-
-/// The function that parses a nested type, and the stack that is left for it.
+/// The function that parses a nested type, and what carries its refusal.
 #[derive(Drop)]
 struct Knot<E, T> {
     ty: T,
-    inside: Inside<E>,
+    carrier: PhantomData<E>,
 }
 
-impl<E: Carrier, T: Fn(&mut ParseBuffer<'_>, Inside<E>) -> std::result::Result<Type, E>> Nested
+impl<E: Carrier, T: Fn(&mut ParseBuffer<'_>, PhantomData<E>) -> std::result::Result<Type, E>> Nested
     for Knot<E, T> {
     ghost may = { λ k ts. Ties E.is_syntax syntax_of_Type rules.type ts (T.pre k.ty) (T.post k.ty) };
 
     fn ty(&self, input: &mut ParseBuffer<'_>) -> Parsed<Type> {
-        match (self.ty)(input, (self.inside.0, PhantomData)) {
+        match (self.ty)(input, PhantomData) {
             Ok(value) => Ok(value),
             Err(carried) => Err(carried.refusal()),
         }
@@ -49,16 +49,13 @@ impl<E: Carrier, T: Fn(&mut ParseBuffer<'_>, Inside<E>) -> std::result::Result<T
 #[cycle(knot)]
 fn nested_type<E: Carrier>(
     input: &mut ParseBuffer<'_>,
-    inside: Inside<E>,
+    carrier: PhantomData<E>,
 ) -> std::result::Result<Type, E>
     ensures parses { Parses E.is_syntax syntax_of_Type rules.type input.old result input.new }
 {
-    let Some(left) = inside.0.checked_sub(TYPE) else {
-        return Err(E::carry(Refusal::TooDeep(input.span())));
-    };
     let knot = Knot {
         ty: nested_type::<E>,
-        inside: (left, inside.1),
+        carrier,
     };
     match ty(&knot, input) {
         Ok(value) => Ok(value),
@@ -73,8 +70,12 @@ impl Read for Type {
     ghost meaning = { meaning_of_rule rules.type };
 
     fn read(input: &mut ParseBuffer<'_>) -> Parsed<Type> {
-        let left = input.stack_left();
-        nested_type::<Refusal>(input, (left, PhantomData))
+        nested_type::<Refusal>(input, PhantomData)
+    }
+
+    #[tactic(auto, unfolding(syn_recognize::specs::Names::rule_of))]
+    fn refuse_too_deep(input: &mut ParseBuffer<'_>) -> Result<()> {
+        refuse_too_deep_by(Rule::TYPE, input)
     }
 }
 
@@ -87,9 +88,14 @@ impl Read for TypePath {
     fn read(input: &mut ParseBuffer<'_>) -> Parsed<TypePath> {
         let knot = Knot {
             ty: nested_type::<Refusal>,
-            inside: (input.stack_left(), PhantomData),
+            carrier: PhantomData,
         };
         path_as_type(&knot, input)
+    }
+
+    #[tactic(auto, unfolding(syn_recognize::specs::Names::rule_of))]
+    fn refuse_too_deep(input: &mut ParseBuffer<'_>) -> Result<()> {
+        refuse_too_deep_by(Rule::PATH_AS_TYPE, input)
     }
 }
 
@@ -102,9 +108,14 @@ impl Read for Path {
     fn read(input: &mut ParseBuffer<'_>) -> Parsed<Path> {
         let knot = Knot {
             ty: nested_type::<Refusal>,
-            inside: (input.stack_left(), PhantomData),
+            carrier: PhantomData,
         };
         type_path(&knot, input)
+    }
+
+    #[tactic(auto, unfolding(syn_recognize::specs::Names::rule_of))]
+    fn refuse_too_deep(input: &mut ParseBuffer<'_>) -> Result<()> {
+        refuse_too_deep_by(Rule::TYPE_PATH, input)
     }
 }
 
@@ -119,9 +130,14 @@ impl Read for ReturnType {
     fn read(input: &mut ParseBuffer<'_>) -> Parsed<ReturnType> {
         let knot = Knot {
             ty: nested_type::<Refusal>,
-            inside: (input.stack_left(), PhantomData),
+            carrier: PhantomData,
         };
         return_type(&knot, input)
+    }
+
+    #[tactic(auto, unfolding(syn_recognize::specs::Names::rule_of))]
+    fn refuse_too_deep(input: &mut ParseBuffer<'_>) -> Result<()> {
+        refuse_too_deep_by(Rule::RETURN_TYPE, input)
     }
 }
 
@@ -134,9 +150,18 @@ impl Read for AngleBracketedGenericArguments {
     fn read(input: &mut ParseBuffer<'_>) -> Parsed<AngleBracketedGenericArguments> {
         let knot = Knot {
             ty: nested_type::<Refusal>,
-            inside: (input.stack_left(), PhantomData),
+            carrier: PhantomData,
         };
         angle_bracketed(&knot, input)
+    }
+
+    /// The arguments of a path's word that aren't in parentheses.
+    #[tactic(auto, using(crate::proofs::Gates::no_angle_brackets), unfolding(syn_recognize::specs::Names::rule_of))]
+    fn refuse_too_deep(input: &mut ParseBuffer<'_>) -> Result<()> {
+        if input.peek::<Paren>() {
+            return Ok(());
+        }
+        refuse_too_deep_by(Rule::TYPE_ARGUMENTS, input)
     }
 }
 
@@ -147,7 +172,7 @@ pub fn path_arguments(input: &mut ParseBuffer<'_>) -> Parsed<PathArguments>
 {
     let knot = Knot {
         ty: nested_type::<Refusal>,
-        inside: (input.stack_left(), PhantomData),
+        carrier: PhantomData,
     };
     some_arguments(&knot, input)
 }

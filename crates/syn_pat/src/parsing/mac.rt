@@ -16,6 +16,7 @@ use syn_parse::buffer::ParseBuffer;
 use syn_parse::read::refusal::{Parsed, Refusal};
 use syn_parse::read::{Peek, Read};
 use syn_recognize::looks::at_bang;
+use syn_tokens::error::Result;
 use syn_tokens::stream::TokenStream;
 use syn_tokens::token::{Bracket, DelimiterKind, Delimiters, Not, Paren, kind};
 
@@ -27,6 +28,10 @@ impl Read for Macro {
 
     fn read(input: &mut ParseBuffer<'_>) -> Parsed<Macro> {
         macro_invocation(input)
+    }
+
+    fn refuse_too_deep(_input: &mut ParseBuffer<'_>) -> Result<()> {
+        Ok(())
     }
 }
 

@@ -22,11 +22,13 @@ use crate::pat::{PatIdent, PatParen, PatPath, PatTuple, PatTupleStruct, PatType,
 use std::marker::PhantomData;
 use syn_lower::carrier::Carrier;
 use syn_parse::buffer::ParseBuffer;
-use syn_parse::limits::PATTERN;
 use syn_parse::read::lists::punctuated_list;
 use syn_parse::read::refusal::{Parsed, Refusal};
 use syn_parse::read::{End, Read};
+use syn_recognize::Rule;
+use syn_recognize::depth::refuse_too_deep_by;
 use syn_recognize::looks::at_pattern_path;
+use syn_tokens::error::Result;
 use syn_tokens::punctuated::Punctuated;
 use syn_tokens::token::{Colon, Comma, Paren, PathSep, Underscore, kind};
 
@@ -58,17 +60,6 @@ fn pattern<N: NestedPat>(nested: &N, input: &mut ParseBuffer<'_>) -> Parsed<Pat>
     } else {
         name(input)
     }
-}
-
-/// A pattern that is left so many KiB of stack.
-fn pattern_within<N: NestedPat>(kib: u32, nested: &N, input: &mut ParseBuffer<'_>) -> Parsed<Pat>
-    requires { MayBelow N.may nested.now input.old }
-    ensures parses { Parses IsSyntax syntax_of_Pat rules.pattern input.old result input.new }
-{
-    let mut inside = input.with_stack_left(kib);
-    let answer = pattern(nested, &mut inside);
-    input.advance_to(&inside);
-    answer
 }
 
 /// `_`.
@@ -168,22 +159,19 @@ fn patterns<N: NestedPat>(nested: &N, input: &mut ParseBuffer<'_>) -> Parsed<Pun
     punctuated_list::<End, Comma, _, _>(input, |next| nested.pat(next))
 }
 
-/// How many KiB of stack are left, and what carries a refusal.
-type Inside<E> = (u32, PhantomData<E>);
-
-/// The function that parses a nested pattern, and the stack that is left for it.
+/// The function that parses a nested pattern, and what carries its refusal.
 #[derive(Drop)]
 struct Knot<E, T> {
     pat: T,
-    inside: Inside<E>,
+    carrier: PhantomData<E>,
 }
 
-impl<E: Carrier, T: Fn(&mut ParseBuffer<'_>, Inside<E>) -> std::result::Result<Pat, E>> NestedPat
+impl<E: Carrier, T: Fn(&mut ParseBuffer<'_>, PhantomData<E>) -> std::result::Result<Pat, E>> NestedPat
     for Knot<E, T> {
     ghost may = { λ k ts. Ties E.is_syntax syntax_of_Pat rules.pattern ts (T.pre k.pat) (T.post k.pat) };
 
     fn pat(&self, input: &mut ParseBuffer<'_>) -> Parsed<Pat> {
-        match (self.pat)(input, (self.inside.0, PhantomData)) {
+        match (self.pat)(input, PhantomData) {
             Ok(value) => Ok(value),
             Err(carried) => Err(carried.refusal()),
         }
@@ -194,18 +182,15 @@ impl<E: Carrier, T: Fn(&mut ParseBuffer<'_>, Inside<E>) -> std::result::Result<P
 #[cycle(pattern_knot)]
 fn nested_pattern<E: Carrier>(
     input: &mut ParseBuffer<'_>,
-    inside: Inside<E>,
+    carrier: PhantomData<E>,
 ) -> std::result::Result<Pat, E>
     ensures parses { Parses E.is_syntax syntax_of_Pat rules.pattern input.old result input.new }
 {
-    let Some(left) = inside.0.checked_sub(PATTERN) else {
-        return Err(E::carry(Refusal::TooDeep(input.span())));
-    };
     let knot = Knot {
         pat: nested_pattern::<E>,
-        inside: (left, inside.1),
+        carrier,
     };
-    match pattern_within(left, &knot, input) {
+    match pattern(&knot, input) {
         Ok(value) => Ok(value),
         Err(refusal) => Err(E::carry(refusal)),
     }
@@ -218,8 +203,12 @@ impl Read for Pat {
     ghost meaning = { meaning_of_rule rules.pattern };
 
     fn read(input: &mut ParseBuffer<'_>) -> Parsed<Pat> {
-        let left = input.stack_left();
-        nested_pattern::<Refusal>(input, (left, PhantomData))
+        nested_pattern::<Refusal>(input, PhantomData)
+    }
+
+    #[tactic(auto, unfolding(syn_recognize::specs::Names::rule_of))]
+    fn refuse_too_deep(input: &mut ParseBuffer<'_>) -> Result<()> {
+        refuse_too_deep_by(Rule::PATTERN, input)
     }
 }
 

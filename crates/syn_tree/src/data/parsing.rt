@@ -24,7 +24,6 @@ use syn_lower::attr::all_outer_attributes;
 use syn_lower::carrier::Carrier;
 use syn_lower::looks::at_nameless_fields;
 use syn_parse::buffer::ParseBuffer;
-use syn_parse::limits::FIELDS;
 use syn_parse::read::End;
 use syn_parse::read::lists::punctuated_list;
 use syn_parse::read::refusal::{Parsed, Refusal};
@@ -44,21 +43,21 @@ pub(crate) trait Nested {
         ensures { Parses IsSyntax itself rules.fields_named input.old result input.new };
 }
 
-/// The parser itself, which parses nested fields, with the KiB of stack that are left and the carrier of a refusal.
+/// The parser itself, which parses nested fields, and what carries its refusal.
 #[derive(Drop)]
 struct Knot<E, F> {
     fields_named: F,
-    inside: (u32, PhantomData<E>),
+    carrier: PhantomData<E>,
 }
 
 impl<
     E: Carrier,
-    F: Fn(&mut ParseBuffer<'_>, (u32, PhantomData<E>)) -> std::result::Result<FieldsNamed, E>,
+    F: Fn(&mut ParseBuffer<'_>, PhantomData<E>) -> std::result::Result<FieldsNamed, E>,
 > Nested for Knot<E, F> {
     ghost may = { λ k ts. Ties E.is_syntax itself rules.fields_named ts (F.pre k.fields_named) (F.post k.fields_named) };
 
     fn fields_named(&self, input: &mut ParseBuffer<'_>) -> Parsed<FieldsNamed> {
-        match (self.fields_named)(input, (self.inside.0, PhantomData)) {
+        match (self.fields_named)(input, PhantomData) {
             Ok(fields) => Ok(fields),
             Err(carried) => Err(carried.refusal()),
         }
@@ -68,18 +67,15 @@ impl<
 /// Fields with names, in braces.
 fn read_fields_named<E: Carrier>(
     input: &mut ParseBuffer<'_>,
-    inside: (u32, PhantomData<E>),
+    carrier: PhantomData<E>,
 ) -> std::result::Result<FieldsNamed, E>
     ensures { Parses E.is_syntax itself rules.fields_named input.old result input.new }
 {
-    let Some(left) = inside.0.checked_sub(FIELDS) else {
-        return Err(E::carry(Refusal::TooDeep(input.span())));
-    };
     let knot = Knot {
         fields_named: read_fields_named::<E>,
-        inside: (left, inside.1),
+        carrier,
     };
-    match fields_within(left, &knot, input) {
+    match braced_fields(&knot, input) {
         Ok(fields) => Ok(fields),
         Err(refusal) => Err(E::carry(refusal)),
     }
@@ -89,8 +85,7 @@ fn read_fields_named<E: Carrier>(
 pub(crate) fn fields_named(input: &mut ParseBuffer<'_>) -> Parsed<FieldsNamed>
     ensures { Parses IsSyntax itself rules.fields_named input.old result input.new }
 {
-    let left = input.stack_left();
-    read_fields_named::<Refusal>(input, (left, PhantomData))
+    read_fields_named::<Refusal>(input, PhantomData)
 }
 
 /// A field with a name.
@@ -99,7 +94,7 @@ pub(crate) fn named_field(input: &mut ParseBuffer<'_>) -> Parsed<Field>
 {
     let knot = Knot {
         fields_named: read_fields_named::<Refusal>,
-        inside: (input.stack_left(), PhantomData),
+        carrier: PhantomData,
     };
     field(&knot, input)
 }
@@ -114,21 +109,6 @@ fn braced_fields<N: Nested>(nested: &N, input: &mut ParseBuffer<'_>) -> Parsed<F
     let named = named_fields(nested, &mut content)?;
     content.read_end()?;
     Ok(FieldsNamed { brace_token, named })
-}
-
-/// Fields with names, in braces, that are left so many KiB of stack.
-fn fields_within<N: Nested>(
-    kib: u32,
-    nested: &N,
-    input: &mut ParseBuffer<'_>,
-) -> Parsed<FieldsNamed>
-    requires { MayBelow N.may nested.now input.old }
-    ensures { Parses IsSyntax itself rules.fields_named input.old result input.new }
-{
-    let mut inside = input.with_stack_left(kib);
-    let answer = braced_fields(nested, &mut inside);
-    input.advance_to(&inside);
-    answer
 }
 
 /// Named fields, separated by commas; the last comma is optional.

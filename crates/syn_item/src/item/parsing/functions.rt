@@ -131,7 +131,6 @@ fn at_foreign_module(input: &ParseBuffer<'_>) -> Parsed<bool>
     match marked_abi(&mut ahead) {
         Ok(_) => Ok(ahead.peek::<Brace>()),
         Err(Refusal::Memory(error)) => Err(Refusal::Memory(error)),
-        Err(Refusal::TooDeep(span)) => Err(Refusal::TooDeep(span)),
         Err(Refusal::Syntax { .. }) => Ok(false),
     }
 }

@@ -52,7 +52,6 @@ fn is_alias(input: &ParseBuffer<'_>) -> Parsed<bool>
     match read_by(Rule::WHERE_CLAUSE, &mut ahead) {
         Ok(()) => Ok(ahead.peek::<Eq>()),
         Err(Refusal::Memory(error)) => Err(Refusal::Memory(error)),
-        Err(Refusal::TooDeep(span)) => Err(Refusal::TooDeep(span)),
         Err(Refusal::Syntax { .. }) => Ok(true),
     }
 }
@@ -125,7 +124,6 @@ fn is_use(input: &ParseBuffer<'_>) -> Parsed<bool>
     match read_by(Rule::USE_ITEM_REST, &mut input.fork()) {
         Ok(()) => Ok(true),
         Err(Refusal::Memory(error)) => Err(Refusal::Memory(error)),
-        Err(Refusal::TooDeep(span)) => Err(Refusal::TooDeep(span)),
         Err(Refusal::Syntax { .. }) => Ok(false),
     }
 }
