@@ -181,7 +181,7 @@ impl Block {
     /// Parses statements up to the end of the group or stream. They may be none, and the last expression needs no `;`.
     ///
     /// If something else than statements is next, memory is refused, or the nesting is too deep, the buffer is unchanged.
-    #[tactic(auto, using(syn_parse::proofs::Refused::refused_by_syntax), unfolding(syn_recognize::specs::Names::rule_of))]
+    #[tactic(auto, using(syn_parse::proofs::Refused::refused_by_syntax, syn_parse::proofs::Refused::refused_shallow), unfolding(syn_recognize::specs::Names::rule_of))]
     pub fn parse_within(input: &mut ParseBuffer<'_>) -> Result<Vec<Stmt>>
         ensures outcome { Outcome IsSyntaxError (λ v. statements_syntax v.items) (rule rules.statements) input.old result input.new }
         ensures reads { Computes IsSyntaxError (λ v. statements_syntax v.items) (parse_rule rules.statements input.old) result input.new }

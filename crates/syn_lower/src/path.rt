@@ -1,6 +1,8 @@
 //! Paths.
 ghost use Rattle.syn_grammar.specs.Rules as rules;
 ghost use Rattle.std.specs.Prelude.{◌≡◌, OnErr};
+ghost use Rattle.syn_grammar.specs.Promises.{Never};
+ghost use Rattle.syn_tokens.specs.Faults.{IsTooDeepError};
 ghost use Rattle.syn_lower.specs.Parsing.{rule, parse_rule, Computes, Kept, Outcome, itself, IsSyntaxError};
 ghost use Rattle.syn_lower.specs.Paths.{is_lifetime, lifetimes_apart};
 
@@ -115,10 +117,11 @@ impl Path {
     /// Arguments after a word are left.
     ///
     /// Where no such path is next, or memory is refused, the buffer is unchanged.
-    #[tactic(auto, using(syn_parse::proofs::Refused::refused_by_syntax))]
+    #[tactic(auto, using(syn_parse::proofs::Refused::refused_by_syntax, syn_parse::proofs::Refused::refused_shallow))]
     pub fn parse_mod_style(input: &mut ParseBuffer<'_>) -> error::Result<Path>
         ensures outcome { Outcome IsSyntaxError itself (rule rules.module_path) input.old result input.new }
         ensures reads { Computes IsSyntaxError itself (parse_rule rules.module_path input.old) result input.new }
+        ensures shallow { Never IsTooDeepError result }
         ensures unchanged { OnErr result (input.new ≡ input.old) }
         ensures kept { Kept input.old result input.new }
     {

@@ -105,7 +105,7 @@ impl Field {
     /// and an expression. After `_ :` also `struct` or `union` with fields in braces is a type, which is kept verbatim.
     ///
     /// Where the tokens are no such field, memory is refused, or the nesting is too deep, the buffer is unchanged.
-    #[tactic(auto, using(syn_parse::proofs::Refused::refused_by_syntax), unfolding(syn_recognize::specs::Names::rule_of))]
+    #[tactic(auto, using(syn_parse::proofs::Refused::refused_by_syntax, syn_parse::proofs::Refused::refused_shallow), unfolding(syn_recognize::specs::Names::rule_of))]
     pub fn parse_named(input: &mut ParseBuffer<'_>) -> Result<Field>
         ensures outcome { Outcome IsSyntaxError itself (rule rules.named_field) input.old result input.new }
         ensures reads { Computes IsSyntaxError itself (parse_rule rules.named_field input.old) result input.new }
@@ -124,7 +124,7 @@ impl Field {
     ///
     /// Where the tokens are no such field, memory is refused, or the nesting is too deep, the buffer is unchanged. The fault
     /// of a `=` is at the token after it, as fields without names have no defaults.
-    #[tactic(auto, using(syn_parse::proofs::Refused::refused_by_syntax), unfolding(syn_recognize::specs::Names::rule_of))]
+    #[tactic(auto, using(syn_parse::proofs::Refused::refused_by_syntax, syn_parse::proofs::Refused::refused_shallow), unfolding(syn_recognize::specs::Names::rule_of))]
     pub fn parse_unnamed(input: &mut ParseBuffer<'_>) -> Result<Field>
         ensures outcome { Outcome IsSyntaxError itself (rule rules.unnamed_field) input.old result input.new }
         ensures reads { Computes IsSyntaxError itself (parse_rule rules.unnamed_field input.old) result input.new }

@@ -6,7 +6,9 @@ ghost use Rattle.syn_grammar.specs.Tokens as grammar;
 ghost use Rattle.syn_grammar.specs.Tokens.{end};
 ghost use Rattle.syn_grammar.specs.Shape.{untagged};
 ghost use Rattle.syn_grammar.specs.Grammar.{raw, rest_after, Raw, Rest, Shaped};
+ghost use Rattle.syn_grammar.specs.Promises.{Never};
 ghost use Rattle.syn_grammar.specs.Run.{marks_of};
+ghost use Rattle.syn_tokens.specs.Faults.{IsTooDeepError};
 ghost use Rattle.syn_tokens.specs.Kinds.{eq_syntax, path_sep_syntax};
 ghost use Rattle.syn_tokens.specs.Spans.{at};
 ghost use Rattle.syn_lower.specs.Parsing.{rule, inside, parse_rule, parse_form, Computes, Parses, Moved, Kept, Outcome, itself, IsSyntax, IsSyntaxError, joined_of};
@@ -41,10 +43,11 @@ impl Attribute {
     ///
     /// If something else than an outer attribute follows a `#`, or memory is refused, the buffer is
     /// unchanged.
-    #[tactic(auto, using(syn_parse::proofs::Refused::refused_by_syntax))]
+    #[tactic(auto, using(syn_parse::proofs::Refused::refused_by_syntax, syn_parse::proofs::Refused::refused_shallow))]
     pub fn parse_outer(input: &mut ParseBuffer<'_>) -> Result<Vec<Attribute>>
         ensures outcome { Outcome IsSyntaxError (λ v. attributes_syntax v.items) (rule rules.attributes) input.old result input.new }
         ensures reads { Computes IsSyntaxError (λ v. attributes_syntax v.items) (parse_rule rules.attributes input.old) result input.new }
+        ensures shallow { Never IsTooDeepError result }
         ensures unchanged { OnErr result (input.new ≡ input.old) }
         ensures kept { Kept input.old result input.new }
     {
@@ -57,10 +60,11 @@ impl Attribute {
     /// Parses inner attributes, while `#` is next, followed by `!`. They may be none.
     ///
     /// Where no attribute's brackets follow these, or memory is refused, the buffer is unchanged.
-    #[tactic(auto, using(syn_parse::proofs::Refused::refused_by_syntax))]
+    #[tactic(auto, using(syn_parse::proofs::Refused::refused_by_syntax, syn_parse::proofs::Refused::refused_shallow))]
     pub fn parse_inner(input: &mut ParseBuffer<'_>) -> Result<Vec<Attribute>>
         ensures outcome { Outcome IsSyntaxError (λ v. inner_attributes_syntax v.items) (rule rules.inner_attributes) input.old result input.new }
         ensures reads { Computes IsSyntaxError (λ v. inner_attributes_syntax v.items) (parse_rule rules.inner_attributes input.old) result input.new }
+        ensures shallow { Never IsTooDeepError result }
         ensures unchanged { OnErr result (input.new ≡ input.old) }
         ensures kept { Kept input.old result input.new }
     {
