@@ -6,6 +6,7 @@ mod canonical_prints;
 mod chains;
 mod copies;
 mod deep;
+mod deep_tokens;
 mod deferred;
 mod deferred_items;
 mod flat;

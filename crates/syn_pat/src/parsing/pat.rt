@@ -166,8 +166,10 @@ struct Knot<E, T> {
     carrier: PhantomData<E>,
 }
 
-impl<E: Carrier, T: Fn(&mut ParseBuffer<'_>, PhantomData<E>) -> std::result::Result<Pat, E>> NestedPat
-    for Knot<E, T> {
+impl<
+    E: Carrier,
+    T: Fn(&mut ParseBuffer<'_>, PhantomData<E>) -> std::result::Result<Pat, E>,
+> NestedPat for Knot<E, T> {
     ghost may = { λ k ts. Ties E.is_syntax syntax_of_Pat rules.pattern ts (T.pre k.pat) (T.post k.pat) };
 
     fn pat(&self, input: &mut ParseBuffer<'_>) -> Parsed<Pat> {

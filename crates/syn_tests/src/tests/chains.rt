@@ -120,8 +120,14 @@ fn commas_in_generic_arguments(rt: HostRuntime) {
     }
 }
 
-/// Elements in which `<` is an operator, after a path, a cast or `self`.
-const WITH_OPERATORS: &[&str] = &["a::b < c, ", "a as B<C> < d, ", "a as u8 + b < c, ", "self < a, "];
+/// Elements in which `<` is an operator, after a path, a cast, `self` or braces.
+const WITH_OPERATORS: &[&str] = &[
+    "a::b < c, ",
+    "a as B<C> < d, ",
+    "a as u8 + b < c, ",
+    "self < a, ",
+    "{ a } < b, ",
+];
 
 #[test]
 fn a_comma_after_an_operator(rt: HostRuntime) {
@@ -130,16 +136,4 @@ fn a_comma_after_an_operator(rt: HostRuntime) {
         let whole = value(&rt, repeated(rt.alloc(), 1, "[", text.as_str(), ""));
         let _tree: Expr = tree_of(&rt, rt.alloc(), whole.as_str());
     }
-}
-
-/// A `<` after braces may open generic arguments, which a comma doesn't end.
-#[test]
-fn a_comma_after_an_angle(rt: HostRuntime) {
-    let part = "{ a } < b, ";
-    let text = value(&rt, repeated(rt.alloc(), 600, part, "a]", ""));
-    let whole = value(&rt, repeated(rt.alloc(), 1, "[", text.as_str(), ""));
-    let start = most()
-        .saturating_mul(part.len())
-        .saturating_add("[{ a } ".len());
-    assert_too_deep::<Expr>(&rt, rt.alloc(), whole.as_str(), start);
 }

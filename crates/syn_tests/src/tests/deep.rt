@@ -76,7 +76,8 @@ fn types(rt: HostRuntime) {
     }
 }
 
-/// How many may be read nested, where one takes so many KiB of stack.
+/// How many may be read nested, where one takes so many KiB of stack. Tokens that are nested `LEVELS` deep are read in any case, so one
+/// more may be.
 fn most(kib: u32) -> usize {
     fit(STACK, kib)
 }
@@ -98,8 +99,8 @@ pub fn assert_too_deep<T: Parse + Drop>(rt: &impl Abort, alloc: Global, text: &s
     assert!(rt; span.start == start, "{text}");
 }
 
-/// Fails where one more than fit, of so many KiB each, aren't refused as nested too deep, nor far more; each is right after what
-/// is before it.
+/// Fails where more than fit, of so many KiB each, aren't refused as nested too deep, nor far more; each is right after what is
+/// before it.
 fn assert_limited<T: Parse + Drop>(
     rt: &impl Abort,
     alloc: Global,
@@ -107,7 +108,7 @@ fn assert_limited<T: Parse + Drop>(
     (before, inside, following): (&str, &str, &str),
 ) {
     let start = most(kib).saturating_mul(before.len());
-    for depth in [most(kib), 10_000] {
+    for depth in [most(kib).saturating_add(1), 10_000] {
         let text = value(rt, repeated(alloc, depth, before, inside, following));
         assert_too_deep::<T>(rt, alloc, text.as_str(), start);
     }
