@@ -113,9 +113,13 @@ goes_later l f o w ts e = record { same = ap (todo l) e ∙ sym (push l (Step-m.
 pub goes_first : (l : List Step) (s : Step) (o : Copy) (g : Grammar) (w : Written) (ts : Stream) → o ≡ after s (copy_form g w ts) → Proceeds l o (l ++ s ∷ []) g w ts
 goes_first l s o g w ts e = record { same = ap (todo l) e ∙ sym (push l s (copy_form g w ts)) }
 
--- what restores the depth around the form is deferred
-pub goes_nested : (l : List Step) (d : Depth) (o : Copy) (g : Grammar) (w : Written) (ts : Stream) → o ≡ copy_form g w ts → Proceeds l o (l ++ Step-m.Leave d ∷ []) g w ts
-goes_nested l d o g w ts e = goes_first l (Step-m.Leave d) o g w ts e
+-- the form of a rule
+pub goes_ruled : (l : List Step) (k : Rule) (g : Grammar) (w : Written) (ts : Stream) → parse_form g ≡ parse_form (table k) → Proceeds l (copy_form (rule k) w ts) l g w ts
+goes_ruled l k g w ts e = goes_here l (copy_form (rule k) w ts) g w ts (rule_is k g w ts e)
+
+-- what restores the depth around it is deferred
+pub goes_nested : (l : List Step) (d : Depth) (k : Rule) (g : Grammar) (w : Written) (ts : Stream) → parse_form g ≡ parse_form (table k) → Proceeds l (copy_form (rule k) w ts) (l ++ Step-m.Leave d ∷ []) g w ts
+goes_nested l d k g w ts e = goes_first l (Step-m.Leave d) (copy_form (rule k) w ts) g w ts (rule_is k g w ts e)
 
 pub goes_further : (l m n : List Step) (o : Copy) (g h : Grammar) (w : Written) (ts : Stream) → Proceeds l o m g w ts → Proceeds m (copy_form g w ts) n h w ts → Proceeds l o n h w ts
 goes_further l m n o g h w ts a b = record { same = a.same ∙ b.same }

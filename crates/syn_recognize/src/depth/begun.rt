@@ -17,7 +17,7 @@ use crate::writer::Writer;
 use syn_parse::buffer::ParseBuffer;
 
 /// Continues with the form of a rule, and notes how deep its tree is nested.
-#[tactic(auto, using(crate::proofs::Todo::goes_here, crate::proofs::Copied::rule_is))]
+#[tactic(auto, using(crate::proofs::Todo::goes_ruled))]
 pub(crate) fn begin_measured<'a>(
     rule: Rule,
     steps: &mut Vec<Step<'a>>,
@@ -27,7 +27,7 @@ pub(crate) fn begin_measured<'a>(
     ensures reads { OrMemory IsFault result (λ first. Proceeds steps.old.items (copy_form (grammar.rule (rule_of rule)) out.old input.now) steps.new.items (grammar_of first.now) out.old input.now) }
     ensures unchanged { out.new ≡ out.old }
 {
-    let in_group = is_group_begun(steps);
+    let in_group = is_group_begun(steps.as_slice());
     match out.enter(rule, in_group, input)? {
         Some(around) => begin_nested(rule, around, steps, out, input),
         None => Ok(form_of(rule)),
@@ -35,7 +35,7 @@ pub(crate) fn begin_measured<'a>(
 }
 
 /// Continues with the form of a rule, and restores the depth that was left where it ends.
-#[tactic(auto, using(crate::proofs::Todo::goes_nested, crate::proofs::Copied::rule_is))]
+#[tactic(auto, using(crate::proofs::Todo::goes_nested))]
 fn begin_nested<'a>(
     rule: Rule,
     around: Depth,
@@ -50,7 +50,7 @@ fn begin_nested<'a>(
 }
 
 /// Whether a group has begun, of which nothing was deferred but its end.
-fn is_group_begun(steps: &Vec<Step<'_>>) -> bool {
+fn is_group_begun(steps: &[Step<'_>]) -> bool {
     match steps.last() {
         Some(Step::Close(_, _)) => true,
         _ => false,
@@ -58,11 +58,7 @@ fn is_group_begun(steps: &Vec<Step<'_>>) -> bool {
 }
 
 /// Restores the depth that was left.
-pub(crate) fn leave_nested(
-    around: Depth,
-    out: &mut Writer,
-    input: &ParseBuffer<'_>,
-) -> Stepped<()>
+pub(crate) fn leave_nested(around: Depth, out: &mut Writer, input: &ParseBuffer<'_>) -> Stepped<()>
     ensures { Runs IsFault (Reached out.old input.now) result out.new input.now }
 {
     out.leave(around);

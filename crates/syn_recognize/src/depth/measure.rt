@@ -11,7 +11,7 @@ use syn_parse::buffer::ParseBuffer;
 use syn_parse::buffer::first::First;
 use syn_parse::limits::{EXPRESSION, FIELDS, LINK, PATTERN, STACK, TYPE, USE_TREE};
 use syn_tokens::span::Span;
-use syn_tokens::token::{Brace, If, Pound, kind};
+use syn_tokens::token::{Brace, If, Pound};
 
 /// How much a link takes in a trial build, in KiB. Copies of trees have the largest frames there: a copy takes up to 39 a link.
 const LINK_IN_TRIALS: u32 = 4 * LINK;
@@ -57,15 +57,15 @@ impl Depth {
     }
 }
 
-/// A tree inside of another: how many KiB of stack the parser takes for it, and its place.
+/// A level of nesting: how many KiB of stack the parser takes for it, and its place.
 #[derive(Clone, Copy)]
-struct Nested {
+struct Level {
     kib: u32,
     place: Place,
 }
 
 /// What is deferred, or kept verbatim.
-const STORED: Nested = Nested {
+const STORED: Level = Level {
     kib: 0,
     place: Place::Stored,
 };
@@ -112,7 +112,7 @@ impl Measure {
         input: &ParseBuffer<'_>,
     ) -> Result<Option<Depth>, AllocError> {
         match self.nested(rule, in_group, input)? {
-            Some(nested) => Ok(Some(self.nest(nested, input))),
+            Some(level) => Ok(Some(self.nest(level, input))),
             None => Ok(None),
         }
     }
@@ -129,15 +129,15 @@ impl Measure {
         self.here.inside = around.inside.max(nested);
     }
 
-    /// A tree inside of another begins, and a chain with it. Returns the depth around it.
-    fn nest(&mut self, nested: Nested, input: &ParseBuffer<'_>) -> Depth {
+    /// A level begins, and a chain with it. Returns the depth around it.
+    fn nest(&mut self, level: Level, input: &ParseBuffer<'_>) -> Depth {
         let around = self.here;
-        let left = around.left.checked_sub(nested.kib);
+        let left = around.left.checked_sub(level.kib);
         if left.is_none() {
             self.refuse(input);
         }
         self.here = Depth {
-            place: nested.place,
+            place: level.place,
             left: left.unwrap_or(0),
             around: around.around.saturating_add(around.links),
             links: 0,
@@ -154,13 +154,13 @@ impl Measure {
         }
     }
 
-    /// The nested tree that this rule reads, which begins. `None` where it reads no tree, or one to which the parser goes on.
+    /// The level that begins with this rule; `None` where none does.
     fn nested(
         &mut self,
         rule: Rule,
         in_group: bool,
         input: &ParseBuffer<'_>,
-    ) -> Result<Option<Nested>, AllocError> {
+    ) -> Result<Option<Level>, AllocError> {
         match self.here.place {
             Place::Trees => Ok(self.nested_in_trees(rule, in_group, input)),
             Place::Deferred => self.nested_in_items(rule, in_group, input),
@@ -179,7 +179,7 @@ impl Measure {
         rule: Rule,
         in_group: bool,
         input: &ParseBuffer<'_>,
-    ) -> Option<Nested> {
+    ) -> Option<Level> {
         match rule {
             Rule::WHOLE_EXPRESSION => self.taking(EXPRESSION),
             Rule::WHOLE_EXPRESSION_HEAD => self.taking(EXPRESSION),
@@ -207,7 +207,7 @@ impl Measure {
         rule: Rule,
         in_group: bool,
         input: &ParseBuffer<'_>,
-    ) -> Result<Option<Nested>, AllocError> {
+    ) -> Result<Option<Level>, AllocError> {
         match rule {
             Rule::WHOLE_EXPRESSION => Ok(Some(STORED)),
             Rule::CONSTANT => Ok(Some(STORED)),
@@ -220,10 +220,16 @@ impl Measure {
     }
 
     /// The same, whatever is made of expressions. Types hold only deferred ones.
-    fn nested_anywhere(&self, rule: Rule) -> Option<Nested> {
+    fn nested_anywhere(&self, rule: Rule) -> Option<Level> {
         match rule {
-            Rule::TYPE => Some(Nested { kib: TYPE, place: Place::Deferred }),
-            Rule::GENERIC_ARGUMENT => Some(Nested { kib: 0, place: Place::Deferred }),
+            Rule::TYPE => Some(Level {
+                kib: TYPE,
+                place: Place::Deferred,
+            }),
+            Rule::GENERIC_ARGUMENT => Some(Level {
+                kib: 0,
+                place: Place::Deferred,
+            }),
             Rule::PATTERN => self.taking(PATTERN),
             Rule::FIELDS_NAMED => self.taking(FIELDS),
             Rule::USE_TREE => self.taking(USE_TREE),
@@ -232,7 +238,7 @@ impl Measure {
     }
 
     /// The same in the braces of a use.
-    fn nested_in_use(&self, rule: Rule, input: &ParseBuffer<'_>) -> Option<Nested> {
+    fn nested_in_use(&self, rule: Rule, input: &ParseBuffer<'_>) -> Option<Level> {
         match rule {
             Rule::ROOTED_TREE if input.peek::<Brace>() => self.taking(USE_TREE),
             Rule::USE_TREE => self.taking(USE_TREE),
@@ -241,9 +247,12 @@ impl Measure {
     }
 
     /// The same at statements: the first ones in a block, or those after a statement.
-    fn nested_in_list(&mut self, in_group: bool, input: &ParseBuffer<'_>) -> Option<Nested> {
+    fn nested_in_list(&mut self, in_group: bool, input: &ParseBuffer<'_>) -> Option<Level> {
         if in_group {
-            return Some(Nested { kib: EXPRESSION, place: statement_place(input) });
+            return Some(Level {
+                kib: EXPRESSION,
+                place: statement_place(input),
+            });
         }
         self.here.ended = self.here.nested();
         self.here.links = 0;
@@ -260,15 +269,15 @@ impl Measure {
     }
 
     /// A tree of the same place, which takes so many KiB of stack.
-    fn taking(&self, kib: u32) -> Option<Nested> {
-        Some(Nested {
+    fn taking(&self, kib: u32) -> Option<Level> {
+        Some(Level {
             kib,
             place: self.here.place,
         })
     }
 
     /// An expression, unless the parser goes on to it.
-    fn taking_unless_direct(&mut self) -> Option<Nested> {
+    fn taking_unless_direct(&mut self) -> Option<Level> {
         if self.direct {
             return self.going_on(false);
         }
@@ -276,7 +285,7 @@ impl Measure {
     }
 
     /// The parser goes on to the unary level or the `if` that is next, if it does (`direct`), without a recursion.
-    fn going_on(&mut self, direct: bool) -> Option<Nested> {
+    fn going_on(&mut self, direct: bool) -> Option<Level> {
         self.direct = direct;
         None
     }
@@ -295,11 +304,11 @@ impl Measure {
 }
 
 /// The trees in the braces of a use. It is kept verbatim if one of them has `::` before it.
-fn nested_in_braces(input: &ParseBuffer<'_>) -> Result<Nested, AllocError> {
+fn nested_in_braces(input: &ParseBuffer<'_>) -> Result<Level, AllocError> {
     if has_root_ahead(input)? {
         return Ok(STORED);
     }
-    Ok(Nested {
+    Ok(Level {
         kib: USE_TREE,
         place: Place::Use,
     })
@@ -327,18 +336,23 @@ fn is_list_of_statements(rule: Rule) -> bool {
 
 /// The place of a statement that begins with these tokens. An item is deferred.
 fn statement_place(input: &ParseBuffer<'_>) -> Place {
-    let mut ahead = input.fork();
-    'attributes: while ahead.peek::<Pound>() {
-        ahead = ahead.past();
-        let Ok((_brackets, _content)) = ahead.read_group::<kind::Bracket>() else {
-            return Place::Trees;
-        };
-    }
-    if at_item(&ahead) {
+    if at_item(&after_attributes(input)) {
         Place::Item
     } else {
         Place::Trees
     }
+}
+
+/// The tokens after the attributes that are next.
+fn after_attributes<'a>(input: &ParseBuffer<'a>) -> ParseBuffer<'a> {
+    let mut rest = input.fork();
+    'attributes: for _tree in 0..input.cursor().len() {
+        if !rest.peek::<Pound>() {
+            return rest;
+        }
+        rest = rest.past().past();
+    }
+    rest
 }
 
 /// Whether the rule reads the links of a chain, one and then the others.
