@@ -5,12 +5,11 @@ use Rattle.syn_parse.specs.Refusals.{IsSyntax}
 use Rattle.syn_tokens.specs.Faults.{ErrorValue, IsSyntaxError}
 use Rattle.syn_parse.specs.Refusals.{IsRefusedAs}
 use Rattle.syn_parse.specs.declared.read.refusal.Refusal.{Refusal}
-use Rattle.syn_parse.specs.declared.read.refusal.Refusal.TheVariants.{Memory, TooDeep, Syntax}
+use Rattle.syn_parse.specs.declared.read.refusal.Refusal.TheVariants.{Memory, Syntax}
 
 -- a refusal for syntax becomes a syntax error
 pub syntax_becomes_error : (r : Refusal) (e : ErrorValue) → IsRefusedAs r e → IsSyntax r → IsSyntaxError e
 syntax_becomes_error (Memory at) e h s = absurd s
-syntax_becomes_error (TooDeep at) e h s = absurd s
 syntax_becomes_error (Syntax span text) e h s = subst IsSyntaxError (sym h) tt
 
 -- an error that is propagated

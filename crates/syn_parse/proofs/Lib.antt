@@ -3,6 +3,7 @@ pub mod FirstTokens
 pub mod Listing
 pub mod Literals
 pub mod Lookaheads
+pub mod Nested
 pub mod Nexts
 pub mod Refused
 pub mod RowsOf

@@ -5,6 +5,7 @@ pub mod Firsts
 pub mod Listing
 pub mod Looked
 pub mod Meanings
+pub mod Nesting
 pub mod Nexts
 pub mod Opened
 pub mod Peeks

@@ -5,7 +5,7 @@ use Rattle.syn_tokens.specs.Faults.{ErrorValue, syntax_error}
 use Rattle.syn_tokens.specs.Spans.{at}
 use Rattle.syn_tokens.specs.declared.span.Span.{Span}
 use Rattle.syn_parse.specs.declared.read.refusal.Refusal.{Refusal}
-use Rattle.syn_parse.specs.declared.read.refusal.Refusal.TheVariants.{Memory, TooDeep, Syntax}
+use Rattle.syn_parse.specs.declared.read.refusal.Refusal.TheVariants.{Memory, Syntax}
 
 -- the next token is at this span, a group by its opening delimiter; at the end nothing is claimed
 abbrev pub IsNext : Stream → Span → Type 0
@@ -17,7 +17,6 @@ IsNext (group d o c i r) s = at s ≡ o
 -- nothing is parsed, since the next token is not the one that this message expects
 abbrev pub RefusedNext : Stream → List ℕ → Refusal → Type 0
 RefusedNext ts text (Memory e) = ⊥
-RefusedNext ts text (TooDeep span) = ⊥
 RefusedNext ts text (Syntax span said) = (said.now ≡ text) × IsNext ts span
 
 -- there is one fault, with this message, at the next token

@@ -1,9 +1,10 @@
 -- ELEMENTS WITH SEPARATORS BETWEEN THEM, up to the end of a group or stream. The trailing separator is optional.
-use Rattle.std.specs.Prelude.{◌≡◌, ◌≢◌, ℕ, zero, suc, List, [], ◌∷◌, Option, Some, None}
+use Rattle.std.specs.Prelude.{◌≡◌, ◌≢◌, ◌<◌, ℕ, zero, suc, List, [], ◌∷◌, Option, Some, None}
 use Rattle.syn_grammar.specs.Tokens.{Stream, end, no, ended}
 use Rattle.syn_grammar.specs.Grammar.{Syntax, Nothing, Node}
 use Rattle.syn_grammar.specs.Take.{Parser, left, sees}
 use Rattle.syn_grammar.specs.Run.{wrap, and_then, branch}
+use Rattle.syn_parse.specs.Nesting.{levels, nesting}
 
 -- THE PARSER
 
@@ -19,6 +20,11 @@ terminated_for (suc n) element separator ts = terminated_step element separator 
 
 unfoldable pub terminated : Parser → Parser → Parser
 terminated element separator ts = terminated_for (suc (left ts)) element separator ts
+
+-- after some elements, each with the separator after it, the remaining tokens are nested more than `levels` deep
+pub data IsDeepAfter (element separator : Parser) : Stream → Type 0 where
+  now : (ts : Stream) → levels < nesting ts → IsDeepAfter element separator ts
+  later : (ts : Stream) (s t : Syntax) (r m : Stream) → element ts ≡ Some (s, r) → separator r ≡ Some (t, m) → IsDeepAfter element separator m → IsDeepAfter element separator ts
 
 -- IN TERMS OF THE GRAMMAR
 

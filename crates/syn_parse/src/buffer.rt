@@ -14,7 +14,7 @@ ghost use Rattle.syn_tokens.specs.Cursors.{before_next};
 ghost use Rattle.syn_parse.specs.Opened.{ComputesOpened, content_of};
 
 use crate::buffer::first_token::split_group;
-use crate::limits::STACK;
+use crate::nesting::Nesting;
 use crate::read::refusal::{Parsed, Refusal};
 use crate::read::{Peek, Read};
 use std::alloc::Global;
@@ -33,6 +33,7 @@ pub mod first;
 mod first_token;
 mod leaves;
 mod marks;
+mod nested;
 mod public;
 
 /// The remaining token trees, and the span of their end.
@@ -41,10 +42,8 @@ pub struct ParseBuffer<'a> {
     tokens: Cursor<'a>,
     end: Span,
     alloc: Global,
-    /// How many KiB of stack the parsers may still use. No contract covers it.
-    stack_left: u32,
-    /// Whether the chains in the remaining tokens were counted, and are short enough. No contract covers it.
-    chains_fit: bool,
+    /// Whether the remaining tokens are nested too deep, as far as this was measured. No contract covers it.
+    nesting: Nesting,
 }
 
 impl<'a> Model for ParseBuffer<'a> {
@@ -104,8 +103,7 @@ impl<'a> ParseBuffer<'a> {
             tokens: stream.cursor(),
             end: end_of(stream.entries()),
             alloc: stream.alloc(),
-            stack_left: STACK,
-            chains_fit: false,
+            nesting: Nesting::Unknown,
         }
     }
 
@@ -117,18 +115,17 @@ impl<'a> ParseBuffer<'a> {
             tokens: self.tokens.fork(),
             end: self.end,
             alloc: self.alloc,
-            stack_left: self.stack_left,
-            chains_fit: self.chains_fit,
+            nesting: self.nesting,
         }
     }
 
-    /// Continues at the position of the other buffer; the stack that is left stays.
+    /// Continues at the position of the other buffer.
     pub fn advance_to(&mut self, fork: &ParseBuffer<'a>)
         ensures { self.new ≡ fork.now }
     {
         self.tokens = fork.tokens.fork();
         self.end = fork.end;
-        self.chains_fit = fork.chains_fit;
+        self.nesting = fork.nesting;
     }
 
     /// A cursor over the remaining token trees, which consumes nothing.
@@ -141,37 +138,6 @@ impl<'a> ParseBuffer<'a> {
     /// The allocator for the results of parsers.
     pub fn alloc(&self) -> Global {
         self.alloc
-    }
-
-    /// How many KiB of stack the parsers may still use.
-    pub fn stack_left(&self) -> u32 {
-        self.stack_left
-    }
-
-    /// Another buffer at the same position, whose parsers may use so many KiB of stack. Nothing changes the stack of a buffer
-    /// afterwards: `advance_to` doesn't, and a group and a fork have that of their buffer.
-    pub fn with_stack_left(&self, kib: u32) -> ParseBuffer<'a>
-        ensures { result ≡ self.now }
-    {
-        ParseBuffer {
-            tokens: self.tokens.fork(),
-            end: self.end,
-            alloc: self.alloc,
-            stack_left: kib,
-            chains_fit: self.chains_fit,
-        }
-    }
-
-    /// Whether the chains in the remaining tokens (operators, postfixes and casts) were counted, and are short enough.
-    pub fn chains_fit(&self) -> bool {
-        self.chains_fit
-    }
-
-    /// Records that the chains in the remaining tokens are short enough.
-    pub fn set_chains_fit(&mut self)
-        ensures { self.new ≡ self.old }
-    {
-        self.chains_fit = true;
     }
 
     /// Whether no tokens remain.
@@ -238,8 +204,7 @@ impl<'a> ParseBuffer<'a> {
             tokens,
             end: self.end,
             alloc: self.alloc,
-            stack_left: self.stack_left,
-            chains_fit: self.chains_fit,
+            nesting: self.nesting,
         }
     }
 
@@ -277,8 +242,7 @@ impl<'a> ParseBuffer<'a> {
             tokens: group.content,
             end: group.closing,
             alloc: self.alloc,
-            stack_left: self.stack_left,
-            chains_fit: false,
+            nesting: self.nesting.inside(),
         };
         Ok((Delimiters::new(group.opening, group.closing), content))
     }
@@ -292,8 +256,7 @@ impl<'a> ParseBuffer<'a> {
             tokens: group.content,
             end: group.closing,
             alloc: self.alloc,
-            stack_left: self.stack_left,
-            chains_fit: false,
+            nesting: self.nesting.inside(),
         })
     }
 

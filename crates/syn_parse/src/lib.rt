@@ -6,5 +6,6 @@ pub mod ext;
 pub mod laws;
 pub mod limits;
 pub mod lookahead;
+mod nesting;
 pub mod parse;
 pub mod read;

@@ -1,14 +1,18 @@
 //! Limits of the stack that trees may take. The parser, print, copy, comparison and drop of a tree recurse once for each level
-//! of nesting. No contract covers the stack: if the nesting is too deep for it, a parser fails with an error of its own
-//! (`Refusal::TooDeep`).
+//! of nesting. So before a tree is parsed, it is decided from the tokens how deep it may be nested (`Read::refuse_too_deep`), and
+//! `Parse` fails with an error of its own (`Error::is_too_deep`) if the stack doesn't suffice. No contract covers the stack itself:
+//! contracts say only that nothing is too deep whose tokens are nested at most `LEVELS` deep.
 //!
-//! A buffer counts the KiB of stack that its parsers may still use (`ParseBuffer::stack_left`). Each level is charged with the
-//! frames of the costliest form of its kind in a trial build, which isn't optimized and has the largest frames, and some more
-//! for a copy. The sizes below, in KiB for a level of a form, are measured by `bench/deep`: it counts the levels that fit into
-//! 1 MiB.
+//! The other figures are the frames of a level, in KiB: those of the costliest form of its kind in a trial build, which isn't
+//! optimized and has the largest frames, and some more for a copy. They are measured by `bench/deep`, which counts the levels that
+//! fit into 1 MiB.
 
 /// The limit for all trees, in KiB: two thirds of 8 MiB, the usual stack of a main thread.
 pub const STACK: u32 = 5461;
+
+/// How deep tokens may be nested, where nothing else is known of them: as many levels fit into `STACK` if each is one of the
+/// costliest kind, an expression.
+pub const LEVELS: usize = 130;
 
 /// A nested type. Arguments of a path (`A<A<..>>`) take 34.1, types in parentheses 15.5, references 13.7.
 pub const TYPE: u32 = 36;

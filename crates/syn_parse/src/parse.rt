@@ -1,8 +1,9 @@
 //! The public parsers.
-ghost use Rattle.std.specs.Prelude.{◌≡◌, ℕ, OnErr};
+ghost use Rattle.std.specs.Prelude.{◌≡◌, ◌<◌, ℕ, IfErr, OnErr};
 ghost use Rattle.syn_grammar.specs.Promises.{Computes, Takes, Kept};
 ghost use Rattle.syn_parse.specs.Form.{Form, parse, Meaning, Outcome, WholeOutcome};
-ghost use Rattle.syn_tokens.specs.Faults.{IsSyntaxError};
+ghost use Rattle.syn_parse.specs.Nesting.{levels, nesting};
+ghost use Rattle.syn_tokens.specs.Faults.{IsSyntaxError, IsTooDeepError};
 
 use crate::buffer::ParseBuffer;
 use crate::read::Read;
@@ -29,7 +30,8 @@ pub trait Parse: Syntactic {
         ensures reads { Computes IsSyntaxError Self.syntax (parse form input.old) result input.new }
         ensures unchanged { OnErr result (input.new ≡ input.old) }
         ensures kept { Kept input.old result input.new }
-        ensures moved { Takes takes input.old result input.new };
+        ensures moved { Takes takes input.old result input.new }
+        ensures deep { IfErr result (λ e. IsTooDeepError e → levels < nesting input.old) };
 
     /// The parser of the form computes exactly what the form derives.
     ghost meaning: { Meaning form };
@@ -40,8 +42,9 @@ impl<T: Read> Parse for T {
 
     ghost takes = { T.takes };
 
-    #[tactic(auto, using(crate::proofs::Refused::refused_by_syntax))]
+    #[tactic(auto, using(crate::proofs::Refused::refused_by_syntax, crate::proofs::Refused::refused_shallow))]
     fn parse(input: &mut ParseBuffer<'_>) -> Result<T> {
+        T::refuse_too_deep(input)?;
         let mut ahead = input.fork();
         let value = T::read(&mut ahead)?;
         input.advance_to(&ahead);
@@ -55,7 +58,8 @@ impl<T: Read> Parse for T {
 /// token; if tokens remain after a `T`, with `unexpected token` at the first of them; if memory is refused; and if the nesting is
 /// too deep. `syn_whole::parse2` opens invisible groups if it has to.
 pub fn parse_whole<T: Parse + Drop>(tokens: &TokenStream) -> Result<T>
-    ensures { WholeOutcome IsSyntaxError T.syntax T.form tokens.now result }
+    ensures outcome { WholeOutcome IsSyntaxError T.syntax T.form tokens.now result }
+    ensures deep { IfErr result (λ e. IsTooDeepError e → levels < nesting tokens.now) }
 {
     let mut input = ParseBuffer::new(tokens);
     let value = T::parse(&mut input)?;

@@ -7,6 +7,7 @@ mod errors;
 mod leaves;
 mod lists;
 mod marks;
+mod nested;
 mod prints;
 mod public;
 mod spelling;

@@ -38,3 +38,6 @@ visible_entries (group None o c i m) v = absurd (true≢false (sym v))
 pub whole_hidden : {X E : Type 0} (refusal : E → Type 0) (view : X → Syntax) (f : Form) (ts : Stream) (y : Result X E) → invisible_in (encode ts) ≡ true → WholeOutcome refusal view f ts y
 whole_hidden refusal view f ts (Ok x) h = λ v. absurd (true≢false (sym h ∙ visible_entries ts v))
 whole_hidden refusal view f ts (Err e) h = λ v r. absurd (true≢false (sym h ∙ visible_entries ts v))
+
+pub not_visible : (ts : Stream) → invisible_in (encode ts) ≡ true → visible ts ≡ true → ⊥
+not_visible ts h v = true≢false (sym h ∙ visible_entries ts v)

@@ -5,7 +5,7 @@ ghost use Rattle.syn_grammar.specs.Tokens.{at_lifetime, at_name, at_word, at_mar
 ghost use Rattle.syn_grammar.specs.Grammar.{name, identifier, word, name_or, any_literal, literal_of};
 ghost use Rattle.syn_grammar.specs.Take.{sees, take_token, take_lifetime};
 ghost use Rattle.syn_grammar.specs.Promises.{Computes, Takes};
-ghost use Rattle.syn_parse.specs.Refusals.{IsSyntax, NotMemory};
+ghost use Rattle.syn_parse.specs.Refusals.{IsSyntax};
 ghost use Rattle.syn_tokens.specs.Delimiters.{delimiter_of};
 ghost use Rattle.syn_parse.specs.Nexts.{RefusedNext};
 ghost use Rattle.syn_tokens.specs.Leaves.{is_known_word, syntax_of_ident, syntax_of_literal, syntax_of_word, syntax_of_apostrophe};
@@ -33,7 +33,7 @@ impl<'a> ParseBuffer<'a> {
     pub fn read_name(&mut self) -> Parsed<Ident>
         ensures reads { Computes IsSyntax syntax_of_ident (take_token name self.old) result self.new }
         ensures moved { Takes 1 self.old result self.new }
-        ensures fault { IfErr result (λ r. NotMemory r → RefusedNext self.old (codes "expected identifier") r) }
+        ensures fault { IfErr result (λ r. IsSyntax r → RefusedNext self.old (codes "expected identifier") r) }
     {
         let Some((ident, rest)) = split_ident(&self.tokens) else {
             return Err(self.refusal("expected identifier"));
@@ -50,7 +50,7 @@ impl<'a> ParseBuffer<'a> {
     pub fn read_identifier(&mut self) -> Parsed<Ident>
         ensures reads { Computes IsSyntax syntax_of_ident (take_token identifier self.old) result self.new }
         ensures moved { Takes 1 self.old result self.new }
-        ensures fault { IfErr result (λ r. NotMemory r → RefusedNext self.old (codes "expected identifier") r) }
+        ensures fault { IfErr result (λ r. IsSyntax r → RefusedNext self.old (codes "expected identifier") r) }
     {
         let Some((ident, rest)) = split_ident(&self.tokens) else {
             return Err(self.refusal("expected identifier"));
@@ -64,7 +64,7 @@ impl<'a> ParseBuffer<'a> {
     pub fn read_path_word(&mut self) -> Parsed<Ident>
         ensures reads { Computes IsSyntax syntax_of_ident (take_token (name_or path_words) self.old) result self.new }
         ensures moved { Takes 1 self.old result self.new }
-        ensures fault { IfErr result (λ r. NotMemory r → RefusedNext self.old (codes "expected identifier") r) }
+        ensures fault { IfErr result (λ r. IsSyntax r → RefusedNext self.old (codes "expected identifier") r) }
     {
         let Some((ident, rest)) = split_ident(&self.tokens) else {
             return Err(self.refusal("expected identifier"));
@@ -100,7 +100,7 @@ impl<'a> ParseBuffer<'a> {
     pub fn read_literal(&mut self) -> Parsed<Literal>
         ensures reads { Computes IsSyntax syntax_of_literal (take_token any_literal self.old) result self.new }
         ensures moved { Takes 1 self.old result self.new }
-        ensures fault { IfErr result (λ r. NotMemory r → RefusedNext self.old (codes "expected literal") r) }
+        ensures fault { IfErr result (λ r. IsSyntax r → RefusedNext self.old (codes "expected literal") r) }
     {
         let Some((literal, rest)) = split_literal(&self.tokens) else {
             return Err(self.refusal("expected literal"));
@@ -114,7 +114,7 @@ impl<'a> ParseBuffer<'a> {
     pub fn read_lifetime(&mut self) -> Parsed<(Span, Ident)>
         ensures reads { Computes IsSyntax syntax_of_apostrophe (take_lifetime self.old) result self.new }
         ensures moved { Takes 1 self.old result self.new }
-        ensures fault { IfErr result (λ r. NotMemory r → RefusedNext self.old (codes "expected lifetime") r) }
+        ensures fault { IfErr result (λ r. IsSyntax r → RefusedNext self.old (codes "expected lifetime") r) }
     {
         let Some((apostrophe, ident, rest)) = split_lifetime(&self.tokens) else {
             return Err(self.refusal("expected lifetime"));

@@ -5,7 +5,8 @@ ghost use Rattle.syn_grammar.specs.Take.{left, take_group};
 ghost use Rattle.syn_parse.specs.Form as forms;
 ghost use Rattle.syn_parse.specs.Form.{Outcome};
 ghost use Rattle.syn_grammar.specs.Promises.{Computes, Takes, Kept, Finished};
-ghost use Rattle.syn_tokens.specs.Faults.{IsSyntaxError};
+ghost use Rattle.syn_parse.specs.Nesting.{levels, nesting};
+ghost use Rattle.syn_tokens.specs.Faults.{IsSyntaxError, IsTooDeepError};
 ghost use Rattle.syn_parse.specs.Nexts.{HasFaultNext};
 ghost use Rattle.syn_parse.specs.Opened.{ComputesOpened};
 
@@ -23,6 +24,7 @@ impl<'a> ParseBuffer<'a> {
         ensures unchanged { OnErr result (self.new ≡ self.old) }
         ensures kept { Kept self.old result self.new }
         ensures moved { Takes T.takes self.old result self.new }
+        ensures deep { IfErr result (λ e. IsTooDeepError e → levels < nesting self.old) }
     {
         T::parse(self)
     }

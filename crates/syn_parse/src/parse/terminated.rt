@@ -1,12 +1,12 @@
 //! Lists with separators, up to the end of a buffer.
-ghost use Rattle.std.specs.Prelude.{◌≡◌, IsTrue, OnOk, OnErr};
+ghost use Rattle.std.specs.Prelude.{◌≡◌, IsTrue, IfErr, OnOk, OnErr};
 ghost use Rattle.syn_grammar.specs.Take.{is_end};
 ghost use Rattle.syn_grammar.specs.Promises.{Computes, Kept};
 ghost use Rattle.syn_grammar.proofs.Takes.{token_less, mark_less};
-ghost use Rattle.syn_tokens.specs.Faults.{IsSyntaxError};
+ghost use Rattle.syn_tokens.specs.Faults.{IsSyntaxError, IsTooDeepError};
 ghost use Rattle.syn_parse.specs.Refusals.{IsSyntax};
 ghost use Rattle.syn_tokens.specs.Listing.{list_of};
-ghost use Rattle.syn_parse.specs.Terminated.{terminated};
+ghost use Rattle.syn_parse.specs.Terminated.{IsDeepAfter, terminated};
 ghost use Rattle.syn_parse.specs.Meanings.{keyword_less};
 ghost use Rattle.syn_parse.specs.Form.{parse, ParsesSome, ListOutcome};
 
@@ -58,6 +58,7 @@ impl<'a> ParseBuffer<'a> {
         ensures reads { Computes IsSyntaxError (λ l. list_of T.syntax P.syntax l.pairs l.last) (terminated (parse T.form) (parse P.form) self.old) result self.new }
         ensures all { OnOk result (IsTrue (is_end self.new)) }
         ensures unchanged { OnErr result (self.new ≡ self.old) }
+        ensures deep { IfErr result (λ e. IsTooDeepError e → IsDeepAfter (parse T.form) (parse P.form) self.old) }
     {
         let mut ahead = self.fork();
         let list = read_to_end(&mut ahead)?;
@@ -73,6 +74,7 @@ fn read_to_end<T: Parse + Drop, P: Separator + Drop>(
 ) -> Result<Punctuated<T, P>>
     ensures reads { Computes IsSyntaxError (λ l. list_of T.syntax P.syntax l.pairs l.last) (terminated (parse T.form) (parse P.form) input.old) result input.new }
     ensures all { OnOk result (IsTrue (is_end input.new)) }
+    ensures deep { IfErr result (λ e. IsTooDeepError e → IsDeepAfter (parse T.form) (parse P.form) input.old) }
 {
     let mut list = Punctuated::new(input.alloc());
     'elements: while !input.is_empty() {

@@ -7,6 +7,7 @@ ghost use Rattle.syn_parse.specs.Meanings.{meaning_of};
 use crate::buffer::ParseBuffer;
 use crate::read::refusal::Parsed;
 use crate::read::{Peek, Read};
+use syn_tokens::error::Result;
 use syn_tokens::token::{
     CustomKeyword, CustomKeywordKind, CustomPunctuation, CustomPunctuationKind,
 };
@@ -31,6 +32,10 @@ impl<K: CustomKeywordKind> Read for CustomKeyword<K> {
     fn read(input: &mut ParseBuffer<'_>) -> Parsed<CustomKeyword<K>> {
         let span = input.read_keyword(K::text(), K::expected())?;
         Ok(CustomKeyword::new(span))
+    }
+
+    fn refuse_too_deep(_input: &mut ParseBuffer<'_>) -> Result<()> {
+        Ok(())
     }
 
     ghost meaning = { meaning_of _ refl };
@@ -60,6 +65,10 @@ impl<K: CustomPunctuationKind<2>> Read for CustomPunctuation<K, 2> {
         Ok(CustomPunctuation::new(spans))
     }
 
+    fn refuse_too_deep(_input: &mut ParseBuffer<'_>) -> Result<()> {
+        Ok(())
+    }
+
     ghost meaning = { meaning_of _ refl };
 }
 
@@ -85,6 +94,10 @@ impl<K: CustomPunctuationKind<3>> Read for CustomPunctuation<K, 3> {
         let [c, d, e] = K::characters();
         let spans = input.read_mark3(c, d, e, K::expected())?;
         Ok(CustomPunctuation::new(spans))
+    }
+
+    fn refuse_too_deep(_input: &mut ParseBuffer<'_>) -> Result<()> {
+        Ok(())
     }
 
     ghost meaning = { meaning_of _ refl };

@@ -9,6 +9,7 @@ ghost use Rattle.syn_parse.specs.FirstTokens.{at_any_literal};
 use crate::buffer::ParseBuffer;
 use crate::read::refusal::Parsed;
 use crate::read::{Peek, Read};
+use syn_tokens::error::Result;
 use syn_tokens::ident::Ident;
 use syn_tokens::lifetime::Lifetime;
 use syn_tokens::literal::Literal;
@@ -35,6 +36,10 @@ impl Read for Ident {
         input.read_name()
     }
 
+    fn refuse_too_deep(_input: &mut ParseBuffer<'_>) -> Result<()> {
+        Ok(())
+    }
+
     ghost meaning = { meaning_of _ refl };
 }
 
@@ -44,6 +49,10 @@ impl Read for Literal {
 
     fn read(input: &mut ParseBuffer<'_>) -> Parsed<Literal> {
         input.read_literal()
+    }
+
+    fn refuse_too_deep(_input: &mut ParseBuffer<'_>) -> Result<()> {
+        Ok(())
     }
 
     ghost meaning = { meaning_of _ refl };
@@ -85,6 +94,10 @@ impl Read for Lifetime {
     fn read(input: &mut ParseBuffer<'_>) -> Parsed<Lifetime> {
         let (apostrophe, ident) = input.read_lifetime()?;
         Ok(Lifetime { apostrophe, ident })
+    }
+
+    fn refuse_too_deep(_input: &mut ParseBuffer<'_>) -> Result<()> {
+        Ok(())
     }
 
     ghost meaning = { meaning_of _ refl };

@@ -7,13 +7,12 @@ use std::alloc::{AllocError, AllocFailed};
 use syn_tokens::error::Error;
 use syn_tokens::span::Span;
 
-/// Why a parser failed; smaller than an `Error`, which has room for four faults.
+/// Why a parser failed; smaller than an `Error`, which has room for four faults. What is nested too deep is refused before it is
+/// parsed.
 #[derive(Clone, Copy, Debug)]
 pub enum Refusal {
     /// The allocator refused memory with this error.
     Memory(AllocError),
-    /// The nesting is too deep for the stack, from this token on. Only parsers of trees return it.
-    TooDeep(Span),
     /// The tokens don't match: the span, and the message, such as ``expected `struct` ``.
     Syntax { span: Span, text: &'static str },
 }
@@ -43,7 +42,6 @@ impl From<Refusal> for Error {
     fn from(refusal: Refusal) -> Error {
         match refusal {
             Refusal::Memory(error) => Error::from(error),
-            Refusal::TooDeep(span) => Error::too_deep(span),
             Refusal::Syntax { span, text } => Error::new(span, text),
         }
     }

@@ -13,6 +13,7 @@ ghost use Rattle.syn_parse.specs.Refusals.{IsSyntax};
 use crate::buffer::ParseBuffer;
 use crate::read::refusal::Parsed;
 use crate::read::{Peek, Read};
+use syn_tokens::error::Result;
 use syn_tokens::span::Span;
 use syn_tokens::token::{
     DelimiterKind, Delimiters, Mark, MarkKind, OneCharacter, ThreeCharacters, TwoCharacters, Word,
@@ -39,6 +40,10 @@ impl<K: WordKind> Read for Word<K> {
     fn read(input: &mut ParseBuffer<'_>) -> Parsed<Word<K>> {
         let span = input.read_word(K::text(), K::expected())?;
         Ok(Word::new(span))
+    }
+
+    fn refuse_too_deep(_input: &mut ParseBuffer<'_>) -> Result<()> {
+        Ok(())
     }
 
     ghost meaning = { meaning_of _ refl };
@@ -112,6 +117,10 @@ impl<K: ReadMark<N>, const N: usize> Read for Mark<K, N> {
             Ok(spans) => Ok(Mark::new(spans)),
             Err(refusal) => Err(refusal),
         }
+    }
+
+    fn refuse_too_deep(_input: &mut ParseBuffer<'_>) -> Result<()> {
+        Ok(())
     }
 
     ghost meaning = { meaning_of _ refl };

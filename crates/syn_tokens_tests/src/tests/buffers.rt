@@ -2,7 +2,6 @@
 use crate::tests::support::{assert_parsed, at, printed, refused, stream};
 use std::alloc::Global;
 use syn_parse::buffer::ParseBuffer;
-use syn_parse::limits::STACK;
 use syn_parse::read::refusal::Parsed;
 use syn_parse::read::{End, Read};
 use syn_tokens::error::Result;
@@ -106,26 +105,6 @@ fn looking_past_trees(rt: HostRuntime) {
     let mut input = ParseBuffer::new(&sample);
     assert!(rt; input.peek2::<Ident>() && input.peek3::<token::PathSep>());
     assert!(rt; skip_path(&mut input) && input.peek2::<Literal>() && input.peek3::<token::ShlEq>());
-}
-
-/// Whether a fork, the rest and the content of the group that is next have so much stack left.
-fn is_left(input: &mut ParseBuffer<'_>, kib: u32) -> bool {
-    let is_kept = input.stack_left() == kib
-        && input.fork().stack_left() == kib
-        && input.past().stack_left() == kib;
-    is_kept && matches!(input.parenthesized(), Ok((_, content)) if content.stack_left() == kib)
-}
-
-/// A buffer begins with all of the stack, and what comes from it has what it has.
-#[test]
-fn stack_left(rt: HostRuntime) {
-    let sample = stream(&rt, rt.alloc(), "( x ) ( y )");
-    let mut input = ParseBuffer::new(&sample);
-    let mut less = input.with_stack_left(7);
-    assert!(rt; is_left(&mut less, 7) && less.stack_left() == 7);
-    assert!(rt; is_left(&mut input, STACK) && is_left(&mut input, STACK));
-    input.advance_to(&less);
-    assert!(rt; input.stack_left() == STACK && is_left(&mut input, STACK));
 }
 
 /// Whether a word that isn't there is read as none, and one that is as itself.

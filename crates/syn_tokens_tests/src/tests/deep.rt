@@ -13,7 +13,7 @@ use syn_tokens::stream::tree::{Group, TokenTree};
 const DEEP: usize = 1_000_000;
 
 /// So many groups, one in another; the innermost is empty.
-fn nested(alloc: Global, depth: usize) -> Result<TokenStream> {
+pub fn nested(alloc: Global, depth: usize) -> Result<TokenStream> {
     let mut builder = StreamBuilder::new(alloc);
     for place in 0..depth {
         builder.open(Delimiter::Paren, at(place))?;

@@ -137,8 +137,6 @@ fn refusals(rt: HostRuntime) {
 fn exhausted(rt: HostRuntime) {
     assert!(rt; matches!(exhaust(), Err(Refusal::Memory(_))));
     assert!(rt; Error::from(Refusal::Memory(AllocError)).is_memory());
-    let too_deep = Error::from(Refusal::TooDeep(at(7)));
-    assert!(rt; is_too_deep(&too_deep, at(7)));
 }
 
 #[test]

@@ -198,7 +198,6 @@ fn is_refusal(refusal: Refusal, here: Span, text: &str) -> bool {
     match refusal {
         Refusal::Syntax { span, text: said } => span == here && said == text,
         Refusal::Memory(_) => false,
-        Refusal::TooDeep(_) => false,
     }
 }
 
