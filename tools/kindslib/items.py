@@ -72,7 +72,6 @@ def tries(name, words, variants):
     return f"""/// {words}
 fn {name}(input: &mut ParseBuffer<'_>) -> Parsed<Option<ItemKind>>
     ensures tried {{ KindsTried IsSyntax ({spec_list(variants)}) input.old result input.new }}
-    ensures shallow {{ Never IsTooDeep result }}
 {{
 {steps}    Ok(None)
 }}

@@ -18,10 +18,9 @@ use Rattle.syn_grammar.proofs.StillProved.{lift_keeps, still_derives}
 use Rattle.syn_grammar.proofs.PrintedValues.{print_value}
 use Rattle.syn_recognize.specs.DeferredTokens.{whole_only}
 use Rattle.syn_tokens.specs.Faults.{ErrorValue, IsSyntaxError, IsTooDeepError}
-use Rattle.syn_parse.specs.Refusals.{IsSyntax, IsTooDeep, IsRefusedAs}
+use Rattle.syn_parse.specs.Refusals.{IsSyntax, IsRefusedAs}
 use Rattle.syn_parse.specs.declared.read.refusal.Refusal.{Refusal}
-use Rattle.syn_parse.specs.declared.read.refusal.Refusal.TheVariants as R
-use Rattle.syn_parse.proofs.Refused.{refused_by_syntax}
+use Rattle.syn_parse.proofs.Refused.{refused_by_syntax, refused_shallow}
 use Rattle.syn_answers.specs.Canonical.{IsCanonical, IsSameForm, CanonicalOutcome, SameFormOutcome, StillCanonical, WholeOutcome}
 use Rattle.syn_answers.specs.Whole.{IsWhole, IsWholePrint}
 
@@ -102,11 +101,6 @@ same_form_err_right k a b (Ok p) e h n = absurd h
 same_form_err_right k a b (Err f) e h n = λ v w s. inr (refused_of k b (n (refused_by_syntax e f h s)))
 
 -- no refusal is too deep
-pub shallow_err : {X : Type 0} (r : Result X ErrorValue) (e : Refusal) → IsErrAnd r (λ f. IsRefusedAs e f) → (IsTooDeep e → ⊥) → Never IsTooDeepError r
-shallow_err (Ok x) e h n = tt
-shallow_err (Err f) e h n = λ d. n (deep e f h d)
-  where
-    deep : (e : Refusal) (f : ErrorValue) → IsRefusedAs e f → IsTooDeepError f → IsTooDeep e
-    deep (R.Memory e) f h d = subst IsTooDeepError h d
-    deep (R.TooDeep span) f h d = tt
-    deep (R.Syntax span text) f h d = subst IsTooDeepError h d
+pub shallow_err : {X : Type 0} (r : Result X ErrorValue) (e : Refusal) → IsErrAnd r (λ f. IsRefusedAs e f) → Never IsTooDeepError r
+shallow_err (Ok x) e h = tt
+shallow_err (Err f) e h = refused_shallow e f h

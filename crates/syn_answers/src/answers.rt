@@ -3,7 +3,7 @@ ghost use Rattle.syn_answers.specs.Canonical.{CanonicalOutcome, SameFormOutcome,
 ghost use Rattle.syn_answers.specs.Joining.{JoinOutcome};
 ghost use Rattle.syn_answers.specs.Whole.{WholePrint, WholeRead};
 ghost use Rattle.syn_grammar.specs.Promises.{Never};
-ghost use Rattle.syn_parse.specs.Refusals.{IsSyntax, IsTooDeep};
+ghost use Rattle.syn_parse.specs.Refusals.{IsSyntax};
 ghost use Rattle.syn_recognize.specs.Names.{rule_of};
 ghost use Rattle.syn_tokens.specs.Faults.{IsSyntaxError, IsTooDeepError};
 
@@ -16,10 +16,8 @@ use syn_tokens::error::Result;
 use syn_tokens::stream::TokenStream;
 
 /// The print of the whole stream, as the rule reads it.
-#[tactic(auto, using(syn_recognize::proofs::Stops::token_shallow))]
 fn printed_to_end(rule: Rule, tokens: &TokenStream) -> Parsed<TokenStream>
     ensures printed { WholePrint IsSyntax (rule_of rule) tokens.now result }
-    ensures shallow { Never IsTooDeep result }
 {
     let mut input = ParseBuffer::new(tokens);
     let printed = printed_by(rule, &mut input)?;
@@ -30,7 +28,6 @@ fn printed_to_end(rule: Rule, tokens: &TokenStream) -> Parsed<TokenStream>
 /// The print of the whole stream, as the rule reads it, with the error messages that depend on several tokens.
 fn printed_whole(rule: Rule, tokens: &TokenStream) -> Parsed<TokenStream>
     ensures printed { WholePrint IsSyntax (rule_of rule) tokens.now result }
-    ensures shallow { Never IsTooDeep result }
 {
     match printed_to_end(rule, tokens) {
         Ok(printed) => Ok(printed),
@@ -39,10 +36,8 @@ fn printed_whole(rule: Rule, tokens: &TokenStream) -> Parsed<TokenStream>
 }
 
 /// Whether the rule reads the whole stream. Stores none of it.
-#[tactic(auto, using(syn_recognize::proofs::Stops::token_shallow))]
 fn read_to_end(rule: Rule, tokens: &TokenStream) -> Parsed<()>
     ensures read { WholeRead IsSyntax (rule_of rule) tokens.now result }
-    ensures shallow { Never IsTooDeep result }
 {
     let mut input = ParseBuffer::new(tokens);
     read_by(rule, &mut input)?;
@@ -53,7 +48,6 @@ fn read_to_end(rule: Rule, tokens: &TokenStream) -> Parsed<()>
 /// Whether the rule reads the whole stream, with the error messages that depend on several tokens.
 fn read_whole(rule: Rule, tokens: &TokenStream) -> Parsed<()>
     ensures read { WholeRead IsSyntax (rule_of rule) tokens.now result }
-    ensures shallow { Never IsTooDeep result }
 {
     match read_to_end(rule, tokens) {
         Ok(()) => Ok(()),

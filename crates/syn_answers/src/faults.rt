@@ -1,6 +1,6 @@
 //! Error messages that depend on the tokens before the unexpected one.
 ghost use Rattle.std.specs.Prelude.{◌↔◌};
-ghost use Rattle.syn_parse.specs.Refusals.{IsSyntax, IsTooDeep};
+ghost use Rattle.syn_parse.specs.Refusals.{IsSyntax};
 
 mod angles;
 mod context;
@@ -54,11 +54,9 @@ impl Expected {
 /// tokens before the error once.
 pub(crate) fn reported(refusal: Refusal, rule: Rule, tokens: &TokenStream) -> Refusal
     ensures syntax { IsSyntax result ↔ IsSyntax refusal }
-    ensures deep { IsTooDeep result ↔ IsTooDeep refusal }
 {
     match refusal {
         Refusal::Memory(error) => Refusal::Memory(error),
-        Refusal::TooDeep(span) => Refusal::TooDeep(span),
         Refusal::Syntax { span, text } => {
             let fault = fault_of(Fault { span, text }, rule, tokens);
             Refusal::Syntax {

@@ -4,7 +4,7 @@ ghost use Rattle.syn_grammar.specs.Tokens.{visible};
 ghost use Rattle.syn_grammar.specs.Rules as rules;
 ghost use Rattle.syn_grammar.specs.Listed.{FileLists};
 ghost use Rattle.syn_grammar.specs.Promises.{Never, Refused};
-ghost use Rattle.syn_parse.specs.Refusals.{IsSyntax, IsTooDeep};
+ghost use Rattle.syn_parse.specs.Refusals.{IsSyntax};
 ghost use Rattle.syn_recognize.specs.Names as names;
 ghost use Rattle.syn_tokens.specs.Faults.{IsSyntaxError, IsTooDeepError};
 ghost use Rattle.syn_answers.specs.Listing.{entry_of, rule_of, KindTried, KindsTried, KindRead, ItemRead};
@@ -86,7 +86,6 @@ fn rule_by(kind: ItemKind) -> Option<Rule>
 /// Reads an item of this kind, and returns whether there was one; if there was none, nothing is read.
 fn try_kind(kind: ItemKind, input: &mut ParseBuffer<'_>) -> Parsed<bool>
     ensures tried { KindTried IsSyntax kind input.old result input.new }
-    ensures shallow { Never IsTooDeep result }
 {
     let Some(rule) = rule_by(kind) else {
         return Ok(false);
@@ -99,7 +98,6 @@ fn try_kind(kind: ItemKind, input: &mut ParseBuffer<'_>) -> Parsed<bool>
         }
         Err(Refusal::Syntax { .. }) => Ok(false),
         Err(Refusal::Memory(error)) => Err(Refusal::Memory(error)),
-        Err(Refusal::TooDeep(_)) => unreachable!(),
     }
 }
 
@@ -108,7 +106,6 @@ fn try_kind(kind: ItemKind, input: &mut ParseBuffer<'_>) -> Parsed<bool>
 /// Tries the most common kinds.
 fn try_common(input: &mut ParseBuffer<'_>) -> Parsed<Option<ItemKind>>
     ensures tried { KindsTried IsSyntax (K.Fn ∷ K.Struct ∷ K.Impl ∷ K.Enum ∷ K.Use ∷ []) input.old result input.new }
-    ensures shallow { Never IsTooDeep result }
 {
     if try_kind(ItemKind::Fn, input)? {
         return Ok(Some(ItemKind::Fn));
@@ -131,7 +128,6 @@ fn try_common(input: &mut ParseBuffer<'_>) -> Parsed<Option<ItemKind>>
 /// Tries the kinds that are neither common nor rare.
 fn try_others(input: &mut ParseBuffer<'_>) -> Parsed<Option<ItemKind>>
     ensures tried { KindsTried IsSyntax (K.Const ∷ K.Mod ∷ K.Trait ∷ K.Ty ∷ K.Macro ∷ []) input.old result input.new }
-    ensures shallow { Never IsTooDeep result }
 {
     if try_kind(ItemKind::Const, input)? {
         return Ok(Some(ItemKind::Const));
@@ -154,7 +150,6 @@ fn try_others(input: &mut ParseBuffer<'_>) -> Parsed<Option<ItemKind>>
 /// Tries the rarest kinds.
 fn try_rare(input: &mut ParseBuffer<'_>) -> Parsed<Option<ItemKind>>
     ensures tried { KindsTried IsSyntax (K.Static ∷ K.ExternCrate ∷ K.ForeignMod ∷ K.Union ∷ K.TraitAlias ∷ []) input.old result input.new }
-    ensures shallow { Never IsTooDeep result }
 {
     if try_kind(ItemKind::Static, input)? {
         return Ok(Some(ItemKind::Static));
@@ -180,7 +175,6 @@ fn try_rare(input: &mut ParseBuffer<'_>) -> Parsed<Option<ItemKind>>
 #[tactic(auto, using(crate::proofs::Listing::kept), unfolding(syn_recognize::specs::Names::rule_of))]
 fn read_any(input: &mut ParseBuffer<'_>) -> Parsed<ItemKind>
     ensures read { KindRead IsSyntax input.old result input.new }
-    ensures shallow { Never IsTooDeep result }
 {
     if let Some(kind) = try_common(input)? {
         return Ok(kind);
@@ -198,7 +192,6 @@ fn read_any(input: &mut ParseBuffer<'_>) -> Parsed<ItemKind>
 /// Reads an item, and returns its kind. The kind that its words suggest is tried first, so that most items are read once.
 fn read_kind(input: &mut ParseBuffer<'_>) -> Parsed<ItemKind>
     ensures read { KindRead IsSyntax input.old result input.new }
-    ensures shallow { Never IsTooDeep result }
 {
     let guessed = guess(&input.cursor());
     if try_kind(guessed, input)? {
@@ -210,7 +203,6 @@ fn read_kind(input: &mut ParseBuffer<'_>) -> Parsed<ItemKind>
 /// Reads an item.
 fn read_item(input: &mut ParseBuffer<'_>) -> Parsed<ListedItem>
     ensures read { ItemRead IsSyntax input.old result input.new }
-    ensures shallow { Never IsTooDeep result }
 {
     let ahead = input.fork();
     let kind = read_kind(input)?;
@@ -223,7 +215,6 @@ fn read_item(input: &mut ParseBuffer<'_>) -> Parsed<ListedItem>
 fn listed_to_end(tokens: &TokenStream) -> Parsed<Vec<ListedItem>>
     ensures listed { IfOk result (λ list. FileLists tokens.now (map entry_of list.items)) }
     ensures refused { IfErr result (λ e. IsSyntax e → Refused rules.file tokens.now) }
-    ensures shallow { Never IsTooDeep result }
 {
     let mut input = ParseBuffer::new(tokens);
     read_by(Rule::INNER_ATTRIBUTES, &mut input)?;
@@ -240,7 +231,6 @@ fn listed_to_end(tokens: &TokenStream) -> Parsed<Vec<ListedItem>>
 fn listed(tokens: &TokenStream) -> Parsed<Vec<ListedItem>>
     ensures listed { IfOk result (λ list. FileLists tokens.now (map entry_of list.items)) }
     ensures refused { IfErr result (λ e. IsSyntax e → Refused rules.file tokens.now) }
-    ensures shallow { Never IsTooDeep result }
 {
     match listed_to_end(tokens) {
         Ok(list) => Ok(list),

@@ -1,5 +1,5 @@
 -- Deferred tokens, and the trees they denote.
-use Rattle.std.proofs.Common.{◌≡◌, ℕ, zero, suc, Bool, true, false, Option, Some, None, refl, sym, ap, ◌∙◌}
+use Rattle.std.proofs.Common.{◌≡◌, ◌<◌, ◌≤◌, ◌+◌, max, arith, ℕ, zero, suc, Bool, true, false, Option, Some, None, refl, sym, ap, ◌∙◌}
 use Rattle.syn_grammar.specs.Tokens.{Delimiter, Brace, Stream, end, plain}
 use Rattle.syn_grammar.specs.Rules.{Rule, block, statements}
 use Rattle.syn_grammar.specs.Grammar.{Syntax, Node, Group, show, print, plain_syntax}
@@ -11,7 +11,11 @@ use Rattle.syn_grammar.proofs.Shows.{show_is_read, show_is_alone, same_show}
 use Rattle.syn_grammar.proofs.Same.{same_stream_plain, same_syntax_plain}
 use Rattle.syn_grammar.proofs.Takes.{end_found}
 use Rattle.syn_grammar.proofs.Each.{block_is}
-use Rattle.syn_recognize.specs.DeferredTokens.{kind_rule, tree_in, read_as, IsDeferred, whole_only}
+use Rattle.syn_tokens.specs.declared.token.delimiters.Delimiters.{Delimiters}
+use Rattle.std.proofs.Math.Nat.{le-max_right}
+use Rattle.syn_parse.specs.Nesting.{levels, nesting, seen, start, closed as closed_place, at_group}
+use Rattle.syn_parse.specs.declared.nesting.place.Place.{Place}
+use Rattle.syn_recognize.specs.DeferredTokens.{kind_rule, tree_in, read_as, IsDeferred, in_braces, whole_only}
 
 -- ---- the rules
 pub kinds_read_again : (n : ℕ) → reads_shown (kind_rule n) ≡ true
@@ -86,3 +90,16 @@ block_read ts = block_is ts ∙ ap (wrap Node) (go (take_group Brace ts))
     go : (o : Option Opened) → within Brace o (parse_rule statements) ≡ within Brace o (λ i. whole_only (parse_rule statements i))
     go None = refl
     go (Some g) = closed Brace g (parse_rule statements g.content)
+
+-- ---- nesting
+-- what is nested in a group counts
+counted_inside : (n : ℕ) (p : Place) → n ≤ (closed_place n p).most
+counted_inside n p = omega (arith, le-max_right p.inside n, le-max_right p.most (p.run + max p.inside n))
+
+still_more : (a b c : ℕ) → a < b → b ≤ c → a < c
+still_more a b c h i = omega (arith, h, i)
+
+-- a block is nested deeper than its statements
+pub deeper_in_braces : {K : Type 0} (braces : Delimiters K) (s : Syntax) → levels < nesting (show s) → levels < nesting (show (in_braces braces s))
+unfolding nesting seen
+deeper_in_braces braces s h = still_more levels (nesting (show s)) (closed_place (nesting (show s)) (at_group Brace start)).most h (counted_inside (nesting (show s)) (at_group Brace start))

@@ -37,7 +37,6 @@ pub mod Nameless
 pub mod PathLooks
 pub mod Passed
 pub mod PrintedGenerics
-pub mod Stops
 pub mod ItemLooks
 pub mod ParameterLooks
 pub mod MacroLooks

@@ -15,6 +15,7 @@ use Rattle.syn_recognize.specs.Forms.{grammar_of}
 use Rattle.syn_recognize.specs.Trailing.{ends_by}
 use Rattle.syn_recognize.specs.Copies.{Copy, Reached, Refused, copied, next, copy_form, by_braces}
 use Rattle.syn_recognize.specs.Steps.{after, todo, Steps, Leading, Proceeds}
+use Rattle.syn_recognize.specs.declared.depth.measure.Depth.{Depth}
 use Rattle.syn_recognize.specs.declared.form.Form.{Form}
 use Rattle.syn_recognize.specs.declared.step.Step.{Step}
 use Rattle.syn_recognize.specs.declared.step.Step.TheVariants as Step-m
@@ -43,6 +44,7 @@ nowhere (Step-m.OthersRest k b) = refl
 nowhere (Step-m.LateRest k b) = refl
 nowhere (Step-m.Forget b) = refl
 nowhere (Step-m.Capture b ts) = refl
+nowhere (Step-m.Leave d) = refl
 nowhere (Step-m.Plan p g) = refl
 nowhere (Step-m.Rooted p q g b) = refl
 nowhere (Step-m.ByBraces f g ts) = refl
@@ -62,7 +64,7 @@ done_unless refusal (Err e) l o w ts A B a b k = λ h. absurd (a h)
 -- BY BRACES
 
 -- a whole expression, and then one of two forms, by whether it ends with a group in braces
-by_braces_is : (g h : Grammar) (w : Written) (ts : Stream) → copy_form (either (such trailing_brace (rule whole_expression) & g) (such no_trailing_brace (rule whole_expression) & h)) w ts
+pub by_braces_is : (g h : Grammar) (w : Written) (ts : Stream) → copy_form (either (such trailing_brace (rule whole_expression) & g) (such no_trailing_brace (rule whole_expression) & h)) w ts
     ≡ next (copy_form (rule whole_expression) w ts) (by_braces g h ts)
 unfolding copy_form
 by_braces_is g h w ts = go (parse_rule whole_expression ts) (trailing_brace_read ts)
@@ -87,10 +89,6 @@ by_braces_is g h w ts = go (parse_rule whole_expression ts) (trailing_brace_read
     go None k = refl
     go (Some p) k = first (ends_by false (before ts p.1)) p.0 p.1 (sym (k p.0 p.1 refl))
 
-pub value_is : (u g h : Grammar) (w : Written) (ts : Stream) → parse_form u ≡ parse_form (table whole_expression) →
-    copy_form (either (such trailing_brace (rule whole_expression) & g) (such no_trailing_brace (rule whole_expression) & h)) w ts ≡ next (copy_form u w ts) (by_braces g h ts)
-value_is u g h w ts e = by_braces_is g h w ts ∙ ap (λ o. next o (by_braces g h ts)) (rule_is whole_expression u w ts e)
-
 -- what is written of a rule is what is written of its form
 pub rule_left : (k : Rule) (g : Grammar) (w : Written) (ts : Stream) → parse_form g ≡ parse_form (table k) → copied w (parse_rule k ts) ≡ todo [] (copy_form g w ts)
 unfolding copy_form todo
@@ -114,6 +112,14 @@ goes_later l f o w ts e = record { same = ap (todo l) e ∙ sym (push l (Step-m.
 -- what follows the form is deferred
 pub goes_first : (l : List Step) (s : Step) (o : Copy) (g : Grammar) (w : Written) (ts : Stream) → o ≡ after s (copy_form g w ts) → Proceeds l o (l ++ s ∷ []) g w ts
 goes_first l s o g w ts e = record { same = ap (todo l) e ∙ sym (push l s (copy_form g w ts)) }
+
+-- the form of a rule
+pub goes_ruled : (l : List Step) (k : Rule) (g : Grammar) (w : Written) (ts : Stream) → parse_form g ≡ parse_form (table k) → Proceeds l (copy_form (rule k) w ts) l g w ts
+goes_ruled l k g w ts e = goes_here l (copy_form (rule k) w ts) g w ts (rule_is k g w ts e)
+
+-- what restores the depth around it is deferred
+pub goes_nested : (l : List Step) (d : Depth) (k : Rule) (g : Grammar) (w : Written) (ts : Stream) → parse_form g ≡ parse_form (table k) → Proceeds l (copy_form (rule k) w ts) (l ++ Step-m.Leave d ∷ []) g w ts
+goes_nested l d k g w ts e = goes_first l (Step-m.Leave d) (copy_form (rule k) w ts) g w ts (rule_is k g w ts e)
 
 pub goes_further : (l m n : List Step) (o : Copy) (g h : Grammar) (w : Written) (ts : Stream) → Proceeds l o m g w ts → Proceeds m (copy_form g w ts) n h w ts → Proceeds l o n h w ts
 goes_further l m n o g h w ts a b = record { same = a.same ∙ b.same }

@@ -22,6 +22,7 @@ after (Step-m.OthersRest k b) o = next o (after_other k b.value)
 after (Step-m.LateRest k b) o = next o (after_late k b.value)
 after (Step-m.Forget b) o = next o (forgetting b.value)
 after (Step-m.Capture b ts) o = next o (capturing b.value ts)
+after (Step-m.Leave d) o = o
 after (Step-m.Plan p g) o = next o (copy_draft g (course_of p.now))
 after (Step-m.Rooted p q g b) o = next o (by_roots b (copy_draft g (course_of p.now)) (copy_draft g (course_of q.now)))
 after (Step-m.ByBraces f g ts) o = next o (by_braces (grammar_of f.now) (grammar_of g.now) ts)

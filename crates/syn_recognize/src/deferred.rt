@@ -1,6 +1,6 @@
 //! Deferred trees: trees that are stored as their tokens, and parsed when they are opened. A type may hold one that leads back to itself
 //! through its tree, because nothing that is stored, read, copied, compared, printed or dropped depends on the tree's type.
-ghost use Rattle.std.specs.Prelude.{◌≡◌, ◌↔◌, [], true, None, Some, IfOk, IfErr, OnOk, IsTrue, alloc_error};
+ghost use Rattle.std.specs.Prelude.{◌≡◌, ◌↔◌, ◌<◌, [], true, None, Some, IfOk, IfErr, OnOk, IsTrue, alloc_error};
 ghost use Rattle.syn_grammar.specs.Tokens.{end};
 ghost use Rattle.syn_grammar.specs.Grammar.{rule, show, print, plain_syntax};
 ghost use Rattle.syn_grammar.specs.Run.{parse_rule};
@@ -8,16 +8,18 @@ ghost use Rattle.syn_grammar.specs.Same.{same_syntax};
 ghost use Rattle.syn_grammar.specs.IsAlone.{is_alone};
 ghost use Rattle.syn_grammar.specs.Promises.{Computes, Never, Takes, itself};
 ghost use Rattle.syn_parse.specs.Form.{of};
-ghost use Rattle.syn_parse.specs.Refusals.{IsSyntax, IsTooDeep};
+ghost use Rattle.syn_parse.specs.Nesting.{levels, nesting};
+ghost use Rattle.syn_parse.specs.Refusals.{IsSyntax};
 ghost use Rattle.syn_parse.specs.declared.read.refusal.Refusal.TheVariants.{Memory};
 ghost use Rattle.syn_parse.specs.Meanings.{meaning_of_rule};
-ghost use Rattle.syn_tokens.specs.Faults.{IsSyntaxError};
+ghost use Rattle.syn_tokens.specs.Faults.{IsSyntaxError, IsTooDeepError};
 ghost use Rattle.syn_tokens.specs.Comparison.{same_by, same_equiv, same_per};
 ghost use Rattle.syn_recognize.specs.Copies.{least};
 ghost use Rattle.syn_recognize.specs.DeferredTokens.{kind_rule, printed_or, read_as, IsDeferred, whole_only};
 ghost use Rattle.syn_recognize.specs.Names.{rule_of};
 ghost use Rattle.syn_recognize.specs.Printed.{ShowsAndPrints};
 
+use crate::depth::refuse_too_deep_by;
 use crate::literals::{is_lone_literal, read_literal};
 use crate::reading::{ShownAndPrinted, recognized_and_printed};
 use crate::rules::Rule;
@@ -50,7 +52,8 @@ pub trait TreeOf<const KIND: usize>: ToTokens + Drop {
     /// The syntax of a tree, as the kind's rule reads it.
     ghost whole: { Self → Syntax };
 
-    /// Reads a tree by the kind's rule. Reports a syntax error only where the rule derives nothing.
+    /// Reads a tree by the kind's rule, which isn't nested too deep for the stack. Reports a syntax error only where the rule derives
+    /// nothing.
     fn read_tree(input: &mut ParseBuffer<'_>) -> Parsed<Self>
         ensures reads { Computes IsSyntax Self.whole (parse_rule (kind_rule KIND) input.old) result input.new };
 }
@@ -147,13 +150,16 @@ impl<const KIND: usize> Deferred<KIND> {
         }
     }
 
-    /// Parses the tree from its tokens, with their spans. Fails only where memory is refused, or where the tree's type doesn't accept this
-    /// nesting depth.
+    /// Parses the tree from its tokens, with their spans. Fails only where memory is refused, or where the tree is nested too deep for the
+    /// stack.
+    #[tactic(auto, using(syn_parse::proofs::Refused::refused_by_syntax, syn_parse::proofs::Refused::refused_shallow))]
     pub fn open<T: TreeOf<KIND>>(&self) -> Result<T>
         ensures ok { IfOk result (λ tree. T.whole tree ≡ self.now) }
         ensures no_fault { Never IsSyntaxError result }
+        ensures deep { IfErr result (λ e. IsTooDeepError e → levels < nesting (show self.now)) }
     {
         let mut input = ParseBuffer::new(self.source());
+        refuse_too_deep_by(rule_of_kind(KIND), &mut input)?;
         Ok(T::read_tree(&mut input)?)
     }
 
@@ -199,7 +205,6 @@ fn rule_of_kind(kind: usize) -> Rule
 fn tokens_of<const KIND: usize>(input: &mut ParseBuffer<'_>) -> Parsed<ShownAndPrinted>
     ensures reads { ShowsAndPrints IsSyntax (kind_rule KIND) input.old result input.new }
     ensures moved { Takes (least (kind_rule KIND)) input.old result input.new }
-    ensures shallow { Never IsTooDeep result }
 {
     if is_lone_literal(KIND, input) {
         return read_literal(input);
@@ -212,7 +217,6 @@ pub fn read_deferred<const KIND: usize>(input: &mut ParseBuffer<'_>) -> Parsed<D
     requires { is_alone (kind_rule KIND) ≡ true }
     ensures reads { Computes IsSyntax itself (parse_rule (kind_rule KIND) input.old) result input.new }
     ensures moved { Takes (least (kind_rule KIND)) input.old result input.new }
-    ensures shallow { Never IsTooDeep result }
 {
     let tokens = tokens_of::<KIND>(input)?;
     Ok(Deferred::of(tokens, input.alloc())?)
@@ -223,7 +227,6 @@ pub fn read_deferred_rest<const KIND: usize>(input: &mut ParseBuffer<'_>) -> Par
     ensures reads { Computes IsSyntax itself (whole_only (parse_rule (kind_rule KIND) input.old)) result input.new }
     ensures ended { OnOk result (input.new ≡ end) }
     ensures moved { Takes (least (kind_rule KIND)) input.old result input.new }
-    ensures shallow { Never IsTooDeep result }
 {
     let tokens = tokens_of::<KIND>(input)?;
     input.read_end()?;
@@ -286,6 +289,10 @@ impl Read for Deferred<0> {
     fn read(input: &mut ParseBuffer<'_>) -> Parsed<Deferred<0>> {
         read_deferred(input)
     }
+
+    fn refuse_too_deep(_input: &mut ParseBuffer<'_>) -> Result<()> {
+        Ok(())
+    }
 }
 
 /// A constant.
@@ -299,6 +306,10 @@ impl Read for Deferred<1> {
     fn read(input: &mut ParseBuffer<'_>) -> Parsed<Deferred<1>> {
         read_deferred(input)
     }
+
+    fn refuse_too_deep(_input: &mut ParseBuffer<'_>) -> Result<()> {
+        Ok(())
+    }
 }
 
 /// An item.
@@ -311,5 +322,9 @@ impl Read for Deferred<2> {
 
     fn read(input: &mut ParseBuffer<'_>) -> Parsed<Deferred<2>> {
         read_deferred(input)
+    }
+
+    fn refuse_too_deep(_input: &mut ParseBuffer<'_>) -> Result<()> {
+        Ok(())
     }
 }

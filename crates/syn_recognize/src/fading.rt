@@ -102,7 +102,6 @@ fn skip_head(part: Fading, input: &mut ParseBuffer<'_>) -> Stepped<()>
 }
 
 /// Reads a colon.
-#[tactic(auto, using(crate::proofs::Stops::token_shallow))]
 fn skip_colon(input: &mut ParseBuffer<'_>) -> Stepped<()>
     ensures { Skips IsFault (parse_form (mark false colon) input.old) result input.new }
 {
@@ -113,7 +112,7 @@ fn skip_colon(input: &mut ParseBuffer<'_>) -> Stepped<()>
 }
 
 /// Reads `where`.
-#[tactic(auto, using(crate::proofs::Stops::token_shallow), unfolding(syn_tokens::specs::Leaves::is_known_word))]
+#[tactic(auto, unfolding(syn_tokens::specs::Leaves::is_known_word))]
 fn skip_where(input: &mut ParseBuffer<'_>) -> Stepped<()>
     ensures { Skips IsFault (parse_form (token [] (word w_where)) input.old) result input.new }
 {

@@ -5,6 +5,7 @@
 mod aside;
 mod braces;
 pub mod deferred;
+pub mod depth;
 mod draft;
 pub mod expression_looks;
 mod fading;

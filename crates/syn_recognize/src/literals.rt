@@ -2,10 +2,10 @@
 //! without the rules.
 ghost use Rattle.std.specs.Prelude.{◌≡◌};
 ghost use Rattle.syn_grammar.specs.Tokens.{leaf, end};
-ghost use Rattle.syn_grammar.specs.Promises.{Never, OrMemory, Takes};
+ghost use Rattle.syn_grammar.specs.Promises.{OrMemory, Takes};
 ghost use Rattle.syn_tokens.specs.Leaves.{literal_leaf};
 ghost use Rattle.syn_tokens.specs.Spans.{at};
-ghost use Rattle.syn_parse.specs.Refusals.{IsSyntax, IsTooDeep};
+ghost use Rattle.syn_parse.specs.Refusals.{IsSyntax};
 ghost use Rattle.syn_recognize.specs.LoneLiterals.{is_lone_literal, is_over, ShowsLiteral};
 ghost use Rattle.syn_recognize.specs.Stops.{IsFault};
 
@@ -44,7 +44,6 @@ fn is_over(kind: usize, input: &ParseBuffer<'_>) -> bool
 pub(crate) fn read_literal(input: &mut ParseBuffer<'_>) -> Parsed<ShownAndPrinted>
     ensures reads { ShowsLiteral IsSyntax input.old result input.new }
     ensures moved { Takes 1 input.old result input.new }
-    ensures shallow { Never IsTooDeep result }
 {
     Ok(literal_tokens(input)?)
 }

@@ -15,6 +15,7 @@ ghost use Rattle.syn_recognize.specs.Steps.{Runs, Steps};
 ghost use Rattle.syn_recognize.specs.Stops.{IsFault};
 
 use crate::aside::join;
+use crate::depth::begun::read_stored;
 use crate::draft::{Begun, Draft};
 use crate::form::Form;
 use crate::item_looks::at_generics;
@@ -245,10 +246,11 @@ fn read_kept<'a>(
     ensures { Steps IsFault steps.old.items (copy_draft draft.entry (kept (grammar_of form.now)) out.old input.now) result steps.new.items out.new input.now }
 {
     let Draft { begun, head: _ } = draft;
-    if let Some(Begun { before, begin }) = begun {
-        out.drop_all();
-        steps.push(Step::Capture(before, begin))?;
-    }
+    let Some(Begun { before, begin }) = begun else {
+        return read_stored(form, steps, out, input);
+    };
+    out.drop_all();
+    steps.push(Step::Capture(before, begin))?;
     steps.push(Step::Form(form))?;
     Ok(())
 }

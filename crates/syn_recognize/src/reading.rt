@@ -1,8 +1,8 @@
 //! Reads what a rule reads, step by step, without recursion.
 ghost use Rattle.std.specs.Prelude.{◌≡◌};
 ghost use Rattle.syn_grammar.specs.Run.{parse_rule};
-ghost use Rattle.syn_grammar.specs.Promises.{Kept, Never, OrMemory, Takes};
-ghost use Rattle.syn_parse.specs.Refusals.{IsSyntax, IsTooDeep};
+ghost use Rattle.syn_grammar.specs.Promises.{Kept, OrMemory, Takes};
+ghost use Rattle.syn_parse.specs.Refusals.{IsSyntax};
 ghost use Rattle.syn_recognize.specs.Copies.{Reached, copied, least};
 ghost use Rattle.syn_recognize.specs.Names.{rule_of};
 ghost use Rattle.syn_recognize.specs.Steps.{Runs, RunsOn, todo};
@@ -63,7 +63,7 @@ pub(crate) fn copy_of(tokens: &TokenStream) -> Stepped<TokenStream>
 
 /// Reads the rule, and writes its tokens.
 #[tactic(auto, using(crate::proofs::Todo::push, crate::proofs::Todo::rule_left))]
-fn write_rule(rule: Rule, out: &mut Writer, input: &mut ParseBuffer<'_>) -> Stepped<()>
+pub(crate) fn write_rule(rule: Rule, out: &mut Writer, input: &mut ParseBuffer<'_>) -> Stepped<()>
     ensures { Runs IsFault (copied out.old (parse_rule (rule_of rule) input.old)) result out.new input.new }
 {
     let mut steps = Vec::new(input.alloc());
@@ -78,7 +78,6 @@ pub fn read_by(rule: Rule, input: &mut ParseBuffer<'_>) -> Parsed<()>
     ensures reads { ReadsBy IsSyntax (rule_of rule) input.old result input.new }
     ensures kept { Kept input.old result input.new }
     ensures moved { Takes (least (rule_of rule)) input.old result input.new }
-    ensures shallow { Never IsTooDeep result }
 {
     let mut out = Writer::dropping(input.alloc());
     write_rule(rule, &mut out, input)?;
@@ -108,7 +107,6 @@ pub fn printed_by(rule: Rule, input: &mut ParseBuffer<'_>) -> Parsed<TokenStream
     ensures reads { Prints IsSyntax (rule_of rule) input.old result input.new }
     ensures kept { Kept input.old result input.new }
     ensures moved { Takes (least (rule_of rule)) input.old result input.new }
-    ensures shallow { Never IsTooDeep result }
 {
     let mut out = Writer::printing(input.alloc());
     write_rule(rule, &mut out, input)?;
@@ -121,7 +119,6 @@ pub fn recognized_and_printed(rule: Rule, input: &mut ParseBuffer<'_>) -> Parsed
     ensures reads { ShowsAndPrints IsSyntax (rule_of rule) input.old result input.new }
     ensures kept { Kept input.old result input.new }
     ensures moved { Takes (least (rule_of rule)) input.old result input.new }
-    ensures shallow { Never IsTooDeep result }
 {
     let shown = shown_by(rule, &mut input.fork())?;
     let printed = printed_by(rule, input)?;

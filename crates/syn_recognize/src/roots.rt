@@ -7,9 +7,11 @@ ghost use Rattle.syn_grammar.specs.DecidedByTokens.{roots};
 ghost use Rattle.syn_recognize.specs.Stops.{IsFault};
 
 use crate::stop::{Stepped, Stop};
+use std::alloc::AllocError;
 use syn_parse::buffer::ParseBuffer;
 use syn_tokens::stream::TokenStream;
 use syn_tokens::stream::entry::{Entry, Token};
+use syn_tokens::token::PathSep;
 
 /// Whether `::` is before one of the trees in braces from `begin` on. Stops only where memory is refused.
 pub(crate) fn has_root_mark<'a>(begin: &ParseBuffer<'a>, input: &ParseBuffer<'a>) -> Stepped<bool>
@@ -18,6 +20,17 @@ pub(crate) fn has_root_mark<'a>(begin: &ParseBuffer<'a>, input: &ParseBuffer<'a>
     match begin.between(input) {
         Ok(tokens) => Ok(has_root(&tokens)),
         Err(error) => Err(Stop::Memory(error.into_alloc_error())),
+    }
+}
+
+/// Whether `::` is before one of the trees that are next, up to the end of their braces. Fails only where memory is refused.
+pub(crate) fn has_root_ahead(input: &ParseBuffer<'_>) -> Result<bool, AllocError> {
+    if input.peek::<PathSep>() {
+        return Ok(true);
+    }
+    match input.fork().rest() {
+        Ok(tokens) => Ok(has_root(&tokens)),
+        Err(error) => Err(error.into_alloc_error()),
     }
 }
 

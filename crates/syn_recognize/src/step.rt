@@ -1,4 +1,5 @@
 //! Deferred steps.
+use crate::depth::measure::Depth;
 use crate::draft::Draft;
 use crate::form::Form;
 use crate::list::List;
@@ -32,6 +33,8 @@ pub enum Step<'a> {
     Levels(usize, usize),
     /// Reads the first form if the last token tree since then is a group in braces, else the second.
     ByBraces(&'static Form, &'static Form, ParseBuffer<'a>),
+    /// Restores how deep trees were nested around the rule that ends here.
+    Leave(Depth),
     /// Follows a plan.
     Plan(&'static Plan, Draft<'a>),
     /// Continues with the first plan if one of the trees of a use read since then has `::` before it, else with the second.

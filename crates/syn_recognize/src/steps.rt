@@ -22,6 +22,7 @@ ghost use Rattle.syn_recognize.specs.Stops.{IsFault};
 
 use crate::aside::{capture, forget, read_captured, read_hidden};
 use crate::braces::has_trailing_brace;
+use crate::depth::begun::{begin_measured, leave_nested};
 use crate::fading::{read_fading, read_generics};
 use crate::fault::Fault;
 use crate::form::Form;
@@ -48,6 +49,8 @@ use syn_tokens::stream::TokenStream;
 use syn_tokens::token::{DelimiterKind, kind};
 
 static EMPTY: Form = Form::Empty;
+
+static VALUE: Form = Form::Rule(Rule::WHOLE_EXPRESSION);
 
 /// How many levels of forms are descended in one step; the deepest form that is read has far fewer.
 const MOST_LEVELS: u32 = 1 << 16;
@@ -76,6 +79,7 @@ pub(crate) fn take<'a>(
         Step::ByBraces(one, other, begin) => {
             read_by_braces(one, other, &begin, steps, out, input)
         }
+        Step::Leave(around) => leave_nested(around, out, input),
         Step::Plan(plan, draft) => read_plan(plan, draft, steps, out, input),
         Step::Rooted(one, other, draft, begin) => {
             choose_by_roots(one, other, draft, &begin, steps, out, input)
@@ -139,10 +143,10 @@ fn read_form<'a>(
 fn descend<'a>(
     form: &'static Form,
     steps: &mut Vec<Step<'a>>,
-    out: &Writer,
+    out: &mut Writer,
     input: &ParseBuffer<'a>,
 ) -> Stepped<&'static Form>
-    ensures { OrMemory IsFault result (λ first. Proceeds steps.old.items (copy_form (grammar_of form.now) out.now input.now) steps.new.items (grammar_of first.now) out.now input.now) }
+    ensures { OrMemory IsFault result (λ first. Proceeds steps.old.items (copy_form (grammar_of form.now) out.old input.now) steps.new.items (grammar_of first.now) out.new input.now) }
 {
     let next = input.first();
     let mut form = form;
@@ -229,16 +233,17 @@ fn below<'a>(
     form: &'static Form,
     next: First,
     steps: &mut Vec<Step<'a>>,
-    out: &Writer,
+    out: &mut Writer,
     input: &ParseBuffer<'a>,
 ) -> Stepped<Option<&'static Form>>
     requires { Begins next input.now }
-    ensures { OrMemory IsFault result (λ found. MatchOption found (steps.new.items ≡ steps.old.items) (λ first. Proceeds steps.old.items (copy_form (grammar_of form.now) out.now input.now) steps.new.items (grammar_of first.now) out.now input.now)) }
+    ensures begins { OrMemory IsFault result (λ found. MatchOption found (steps.new.items ≡ steps.old.items) (λ first. Proceeds steps.old.items (copy_form (grammar_of form.now) out.old input.now) steps.new.items (grammar_of first.now) out.old input.now)) }
+    ensures unchanged { out.new ≡ out.old }
 {
     match form {
         Form::Then(one, other) => Ok(Some(deferring(one, other, steps, out, input)?)),
         Form::When(look, one, other) => Ok(Some(choose(look, one, other, next, out, input))),
-        Form::Rule(rule) => Ok(Some(begin_rule(*rule, next, steps, out, input)?)),
+        Form::Rule(rule) => Ok(Some(begin(*rule, next, steps, out, input)?)),
         Form::Part(part) => Ok(Some(begin_part(*part, out, input))),
         Form::Only(rule) => Ok(Some(begin_only(*rule, out, input))),
         Form::Shaped(_, part) => Ok(Some(part)),
@@ -295,6 +300,24 @@ fn choose(
     } else {
         other
     }
+}
+
+/// Continues with the form of a rule; where it is measured how deep trees are nested, notes that it begins.
+fn begin<'a>(
+    rule: Rule,
+    next: First,
+    steps: &mut Vec<Step<'a>>,
+    out: &mut Writer,
+    input: &ParseBuffer<'a>,
+) -> Stepped<&'static Form>
+    requires { Begins next input.now }
+    ensures reads { OrMemory IsFault result (λ first. Proceeds steps.old.items (copy_form (grammar.rule (rule_of rule)) out.old input.now) steps.new.items (grammar_of first.now) out.old input.now) }
+    ensures unchanged { out.new ≡ out.old }
+{
+    if out.is_measuring() {
+        return begin_measured(rule, steps, out, input);
+    }
+    begin_rule(rule, next, steps, out, input)
 }
 
 /// Continues with the form of a rule; of an operand with operator levels, with that of a unary one, and defers the levels.
@@ -430,7 +453,7 @@ fn enter<'a>(
 }
 
 /// Begins a group with these delimiters.
-#[tactic(auto, using(crate::proofs::Stops::token_shallow, crate::proofs::Todo::push, crate::proofs::Copied::inside_is, crate::proofs::Copied::not_inside))]
+#[tactic(auto, using(crate::proofs::Todo::push, crate::proofs::Copied::inside_is, crate::proofs::Copied::not_inside))]
 fn enter_by<'a, K: DelimiterKind>(
     form: &'static Form,
     steps: &mut Vec<Step<'a>>,
@@ -481,7 +504,7 @@ fn copy_group(delimiter: Delimiter, out: &mut Writer, input: &mut ParseBuffer<'_
 }
 
 /// Reads a group with these delimiters, and copies it unchanged.
-#[tactic(auto, using(crate::proofs::Stops::token_shallow, crate::proofs::Copied::raw_is, crate::proofs::Copied::not_raw))]
+#[tactic(auto, using(crate::proofs::Copied::raw_is, crate::proofs::Copied::not_raw))]
 fn copy_group_by<K: DelimiterKind>(out: &mut Writer, input: &mut ParseBuffer<'_>) -> Stepped<()>
     ensures { Runs IsFault (copy_form (grammar.raw K.delimiter) out.old input.old) result out.new input.new }
 {
@@ -536,7 +559,7 @@ fn copy_rest(mark: Mark, out: &mut Writer, input: &mut ParseBuffer<'_>) -> Stepp
 // BY BRACES
 
 /// Reads a whole expression, and then one of two forms, by whether its last token tree is a group in braces.
-#[tactic(auto, using(crate::proofs::Todo::push, crate::proofs::Todo::value_is), unfolding(crate::specs::Names::rule_of))]
+#[tactic(auto, using(crate::proofs::Todo::push, crate::proofs::Todo::by_braces_is), unfolding(crate::specs::Names::rule_of))]
 fn read_value<'a>(
     one: &'static Form,
     other: &'static Form,
@@ -547,7 +570,7 @@ fn read_value<'a>(
     ensures { Steps IsFault steps.old.items (copy_form (either (such trailing_brace (grammar.rule whole_expression) & grammar_of one.now) (such no_trailing_brace (grammar.rule whole_expression) & grammar_of other.now)) out.now input.now) result steps.new.items out.now input.now }
 {
     steps.push(Step::ByBraces(one, other, input.fork()))?;
-    steps.push(Step::Form(form_of(Rule::WHOLE_EXPRESSION)))?;
+    steps.push(Step::Form(&VALUE))?;
     Ok(())
 }
 

@@ -1,6 +1,6 @@
 //! Why the reading of a rule stops.
 ghost use Rattle.std.specs.Prelude.{◌≡◌, alloc_error};
-ghost use Rattle.syn_parse.specs.Refusals.{IsSyntax, IsTooDeep};
+ghost use Rattle.syn_parse.specs.Refusals.{IsSyntax};
 ghost use Rattle.syn_recognize.specs.Stops.{Becomes, IsFault};
 ghost use Rattle.syn_recognize.specs.declared.stop.Stop.TheVariants.{Memory};
 
@@ -9,7 +9,7 @@ use syn_parse::buffer::ParseBuffer;
 use syn_parse::read::refusal::Refusal;
 use syn_tokens::span::Span;
 
-/// Why a reading stops. It is never too deep, since it uses no stack.
+/// Why a reading stops.
 #[derive(Clone, Copy, Debug)]
 pub(crate) enum Stop {
     /// The allocator refused memory with this error.
@@ -58,14 +58,12 @@ pub(crate) fn unexpected(input: &ParseBuffer<'_>, text: &'static str) -> Stop
     }
 }
 
-/// The refusal of a token as a stop. No token is too deep.
+/// The refusal of a token as a stop.
 pub(crate) fn stopped(refusal: Refusal) -> Stop
-    requires { IsTooDeep refusal → ⊥ }
     ensures { IsFault result → IsSyntax refusal }
 {
     match refusal {
         Refusal::Memory(error) => Stop::Memory(error),
         Refusal::Syntax { span, text } => Stop::Syntax { span, text },
-        Refusal::TooDeep(_) => unreachable!(),
     }
 }

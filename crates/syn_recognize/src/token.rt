@@ -53,7 +53,6 @@ pub enum Token {
 // SINGLE TOKENS
 
 /// Reads an identifier of any text.
-#[tactic(auto, using(crate::proofs::Stops::name_shallow))]
 fn identifier(input: &mut ParseBuffer<'_>) -> Stepped<Ident>
     ensures { Computes IsFault syntax_of_ident (take_token identifier input.old) result input.new }
 {
@@ -64,7 +63,6 @@ fn identifier(input: &mut ParseBuffer<'_>) -> Stepped<Ident>
 }
 
 /// Reads a literal.
-#[tactic(auto, using(crate::proofs::Stops::name_shallow))]
 pub(crate) fn literal(input: &mut ParseBuffer<'_>) -> Stepped<Literal>
     ensures reads { Computes IsFault syntax_of_literal (take_token any_literal input.old) result input.new }
     ensures moved { Takes 1 input.old result input.new }
@@ -76,7 +74,7 @@ pub(crate) fn literal(input: &mut ParseBuffer<'_>) -> Stepped<Literal>
 }
 
 /// Reads and writes an identifier that is no keyword.
-#[tactic(auto, using(crate::proofs::Stops::name_shallow, crate::specs::Leaves::token_is_leaf))]
+#[tactic(auto, using(crate::specs::Leaves::token_is_leaf))]
 fn copy_name(out: &mut Writer, input: &mut ParseBuffer<'_>) -> Stepped<()>
     ensures { Copies IsFault out.old (take_token name input.old) result out.new input.new }
 {
@@ -97,7 +95,7 @@ fn copy_literal(out: &mut Writer, input: &mut ParseBuffer<'_>) -> Stepped<()>
 }
 
 /// Reads and writes a lifetime.
-#[tactic(auto, using(crate::proofs::Stops::name_shallow, crate::specs::Leaves::lifetime_is_leaf))]
+#[tactic(auto, using(crate::specs::Leaves::lifetime_is_leaf))]
 pub(crate) fn copy_lifetime(out: &mut Writer, input: &mut ParseBuffer<'_>) -> Stepped<()>
     ensures { Copies IsFault out.old (take_lifetime input.old) result out.new input.new }
 {
@@ -128,7 +126,7 @@ pub(crate) fn copy_token(token: Token, out: &mut Writer, input: &mut ParseBuffer
 }
 
 /// Reads and writes the word with this text; reports `expected` if another token is next.
-#[tactic(auto, using(crate::proofs::Stops::token_shallow, crate::proofs::Writes::word_is))]
+#[tactic(auto, using(crate::proofs::Writes::word_is))]
 pub(crate) fn copy_text(
     text: &'static str,
     expected: &'static str,
@@ -148,7 +146,7 @@ pub(crate) fn copy_text(
 }
 
 /// Reads and writes the mark of this character; reports `expected` if another token is next.
-#[tactic(auto, using(crate::proofs::Stops::token_shallow, crate::proofs::Writes::one_is))]
+#[tactic(auto, using(crate::proofs::Writes::one_is))]
 pub(crate) fn copy_mark1(
     c: char,
     expected: &'static str,
@@ -167,7 +165,7 @@ pub(crate) fn copy_mark1(
 }
 
 /// Reads and writes the mark of these characters; reports `expected` if another token is next.
-#[tactic(auto, using(crate::proofs::Stops::token_shallow, crate::proofs::Writes::two_are))]
+#[tactic(auto, using(crate::proofs::Writes::two_are))]
 pub(crate) fn copy_mark2(
     c: char,
     d: char,
@@ -189,7 +187,7 @@ pub(crate) fn copy_mark2(
 }
 
 /// Reads and writes the mark of these characters; reports `expected` if another token is next.
-#[tactic(auto, using(crate::proofs::Stops::token_shallow, crate::proofs::Writes::three_are))]
+#[tactic(auto, using(crate::proofs::Writes::three_are))]
 pub(crate) fn copy_mark3(
     c: char,
     d: char,
@@ -214,7 +212,7 @@ pub(crate) fn copy_mark3(
 }
 
 /// An identifier that is no keyword, or one of the keywords of paths.
-#[tactic(auto, using(crate::proofs::Stops::name_shallow, crate::specs::Leaves::token_is_leaf))]
+#[tactic(auto, using(crate::specs::Leaves::token_is_leaf))]
 fn copy_path_word(out: &mut Writer, input: &mut ParseBuffer<'_>) -> Stepped<()>
     ensures { Copies IsFault out.old (take_token (name_or (w_self ∷ w_Self_type ∷ w_super ∷ w_crate ∷ [])) input.old) result out.new input.new }
 {

@@ -9,9 +9,12 @@ ghost use Rattle.syn_recognize.specs.PrintedRows.{way};
 ghost use Rattle.syn_recognize.specs.Trailing.{IsLeaf};
 ghost use Rattle.syn_recognize.specs.Written.{adds, enters, leaves, blank, unwritten, closed, drops, stream_of};
 
+use crate::depth::measure::{Depth, Measure};
+use crate::rules::Rule;
 use std::alloc::{AllocError, Global};
 use std::marker::Model;
 use std::mem;
+use syn_parse::buffer::ParseBuffer;
 use syn_tokens::delimiter::Delimiter;
 use syn_tokens::print::Print;
 use syn_tokens::punct::Spacing;
@@ -26,6 +29,8 @@ pub struct Writer {
     out: Option<StreamBuilder>,
     /// Whether trees are written as they are printed.
     printing: bool,
+    /// How deep trees are nested, where that is measured. No contract covers it.
+    measure: Option<Measure>,
     alloc: Global,
 }
 
@@ -47,6 +52,7 @@ impl Writer {
         Writer {
             out: Some(StreamBuilder::new(alloc)),
             printing,
+            measure: None,
             alloc,
         }
     }
@@ -72,7 +78,68 @@ impl Writer {
         Writer {
             out: None,
             printing: false,
+            measure: None,
             alloc,
+        }
+    }
+
+    /// An output that is dropped. It is measured how deep the tree is nested that this rule reads.
+    pub(crate) fn measuring(rule: Rule, input: &ParseBuffer<'_>) -> Result<Writer, AllocError>
+        ensures { IfOk result (λ out. out ≡ unwritten) }
+    {
+        Ok(Writer {
+            out: None,
+            printing: false,
+            measure: Some(Measure::new(rule, input)?),
+            alloc: input.alloc(),
+        })
+    }
+
+    /// Whether it is measured how deep trees are nested.
+    pub(crate) fn is_measuring(&self) -> bool {
+        self.measure.is_some()
+    }
+
+    /// The first token that was measured as too deep.
+    pub(crate) fn too_deep(&self) -> Option<Span> {
+        match &self.measure {
+            Some(measure) => measure.too_deep(),
+            None => None,
+        }
+    }
+
+    /// A rule begins, perhaps with a group. Returns the depth to be restored where it ends, if that changes.
+    pub(crate) fn enter(
+        &mut self,
+        rule: Rule,
+        in_group: bool,
+        input: &ParseBuffer<'_>,
+    ) -> Result<Option<Depth>, AllocError>
+        ensures { self.new ≡ self.old }
+    {
+        match &mut self.measure {
+            Some(measure) => measure.enter(rule, in_group, input),
+            None => Ok(None),
+        }
+    }
+
+    /// What is read from here on is stored as tokens. Returns the depth to be restored after it, where that is measured.
+    pub(crate) fn store(&mut self, input: &ParseBuffer<'_>) -> Option<Depth>
+        ensures { self.new ≡ self.old }
+    {
+        match &mut self.measure {
+            Some(measure) => Some(measure.store(input)),
+            None => None,
+        }
+    }
+
+    /// A rule ends around which trees were nested so deep.
+    pub(crate) fn leave(&mut self, around: Depth)
+        ensures { self.new ≡ self.old }
+    {
+        match &mut self.measure {
+            Some(measure) => measure.leave(around),
+            None => {}
         }
     }
 
@@ -208,7 +275,10 @@ impl Writer {
         ensures before { IfOk result (λ before. before.value ≡ self.old) }
         ensures dropping { OnOk result (self.new ≡ unwritten) }
     {
-        let aside = Writer::dropping(self.alloc);
+        let aside = Writer {
+            measure: self.measure,
+            ..Writer::dropping(self.alloc)
+        };
         let before = mem::replace(self, aside);
         Ok(Box::new(self.alloc, before)?)
     }
@@ -224,7 +294,9 @@ impl Writer {
     pub(crate) fn restore(&mut self, before: Box<Writer>)
         ensures { self.new ≡ before.value }
     {
+        let measure = self.measure;
         *self = Box::into_inner(before);
+        self.measure = measure;
     }
 
     /// Exchanges the output with one that was set aside.

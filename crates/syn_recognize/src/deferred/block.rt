@@ -1,19 +1,22 @@
 //! Blocks whose statements are stored as their tokens.
-ghost use Rattle.std.specs.Prelude.{◌≡◌, ◌↔◌, [], IfOk, IsTrue};
+ghost use Rattle.std.specs.Prelude.{◌≡◌, ◌↔◌, ◌<◌, [], IfErr, IfOk, IsTrue};
 ghost use Rattle.syn_grammar.specs.Tokens.{end};
 ghost use Rattle.syn_grammar.specs.Rules as rules;
-ghost use Rattle.syn_grammar.specs.Grammar.{rule, print, plain_syntax};
+ghost use Rattle.syn_grammar.specs.Grammar.{rule, print, show, plain_syntax};
 ghost use Rattle.syn_grammar.specs.Run.{parse_rule};
 ghost use Rattle.syn_grammar.specs.Same.{same_syntax};
 ghost use Rattle.syn_grammar.specs.Promises.{Computes, Never, itself};
 ghost use Rattle.syn_parse.specs.Form.{of};
 ghost use Rattle.syn_parse.specs.Meanings.{meaning_of_rule};
+ghost use Rattle.syn_parse.specs.Nesting.{levels, nesting};
 ghost use Rattle.syn_parse.specs.Refusals.{IsSyntax};
-ghost use Rattle.syn_tokens.specs.Faults.{IsSyntaxError};
+ghost use Rattle.syn_tokens.specs.Faults.{IsSyntaxError, IsTooDeepError};
 ghost use Rattle.syn_tokens.specs.Comparison.{same_by, same_equiv, same_per};
 ghost use Rattle.syn_recognize.specs.DeferredTokens.{whole_only};
 
 use super::{DeferredStatements, printed_tokens, read_deferred_rest};
+use crate::depth::refuse_too_deep_by;
+use crate::rules::Rule;
 use std::alloc::{AllocError, Global};
 use std::marker::Model;
 use syn_parse::buffer::ParseBuffer;
@@ -35,7 +38,8 @@ pub trait BlockOf: Syntactic + Drop {
     ghost use Rattle.syn_parse.specs.Refusals.{IsSyntax};
     ghost use Rattle.syn_recognize.specs.DeferredTokens.{in_braces};
 
-    /// Reads statements, and makes a block of them with these braces. Reports a syntax error only where the rule derives nothing.
+    /// Reads statements, which aren't nested too deep for the stack, and makes a block of them with these braces. Reports a syntax error
+    /// only where the rule derives nothing.
     fn read_statements(brace_token: Brace, input: &mut ParseBuffer<'_>) -> Parsed<Self>
         ensures reads { Computes IsSyntax Self.syntax (wrap (in_braces brace_token) (parse_rule rules.statements input.old)) result input.new };
 }
@@ -64,13 +68,16 @@ impl Syntactic for DeferredBlock {
 }
 
 impl DeferredBlock {
-    /// Parses the block from its tokens, with their spans. Fails only where memory is refused, or where the block's type doesn't accept
-    /// this nesting depth.
+    /// Parses the block from its tokens, with their spans. Fails only where memory is refused, or where the block is nested too deep for
+    /// the stack.
+    #[tactic(auto, using(syn_parse::proofs::Refused::refused_by_syntax, syn_parse::proofs::Refused::refused_shallow, crate::proofs::DeferredTokens::deeper_in_braces), unfolding(crate::specs::Names::rule_of))]
     pub fn open<B: BlockOf>(&self) -> Result<B>
         ensures ok { IfOk result (λ block. B.syntax block ≡ self.now) }
         ensures no_fault { Never IsSyntaxError result }
+        ensures deep { IfErr result (λ e. IsTooDeepError e → levels < nesting (show self.now)) }
     {
         let mut input = ParseBuffer::new(self.stmts.source());
+        refuse_too_deep_by(Rule::STATEMENTS, &mut input)?;
         Ok(B::read_statements(self.brace_token, &mut input)?)
     }
 
@@ -151,5 +158,9 @@ impl Read for DeferredBlock {
         let (brace_token, mut content) = input.read_group::<kind::Brace>()?;
         let stmts = read_deferred_rest(&mut content)?;
         Ok(DeferredBlock { brace_token, stmts })
+    }
+
+    fn refuse_too_deep(_input: &mut ParseBuffer<'_>) -> Result<()> {
+        Ok(())
     }
 }

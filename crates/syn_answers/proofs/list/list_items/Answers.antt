@@ -6,4 +6,4 @@ pub returns-in_err-listed-clause-refused : goal.returns-in_err-listed-clause-ref
 returns-in_err-listed-clause-refused c = listed_err c.args.tokens.now c.from_residual.result c.in_err-listed.field-0.0 c.from_residual.ensures.1 (c.in_err-listed.ensures).refused
 
 pub returns-in_err-listed-clause-shallow : goal.returns-in_err-listed-clause-shallow
-returns-in_err-listed-clause-shallow c = shallow_err c.from_residual.result c.in_err-listed.field-0.0 c.from_residual.ensures.1 (c.in_err-listed.ensures).shallow
+returns-in_err-listed-clause-shallow c = shallow_err c.from_residual.result c.in_err-listed.field-0.0 c.from_residual.ensures.1
