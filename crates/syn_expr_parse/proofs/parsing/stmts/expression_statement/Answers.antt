@@ -22,8 +22,8 @@ statement_of_block-requires-clause-shown g c =
 pub statement_of_expression-requires-clause-shown : goal.statement_of_expression-requires-clause-shown
 statement_of_expression-requires-clause-shown g c =
     let e = c.in_ok-expr-2.expr.value in
-    let got : parse_rule whole_expression c.args.input.now ≡ Some (Node (g.N.Trees.Trees.expr_syntax e), c.expr.new.input) = search rules in
-    ap spine_shown (sym (g.N.Trees.Trees.core_is e)) ∙ read_spine c.args.input.now (Node (g.N.Trees.Trees.expr_syntax e)) c.expr.new.input got
+    let got : parse_rule whole_expression c.args.input.now ≡ Some (Node (g.N.Trees.Trees.expr_syntax e), c.whole_expression.new.input) = search rules in
+    ap spine_shown (sym (g.N.Trees.Trees.core_is e)) ∙ read_spine c.args.input.now (Node (g.N.Trees.Trees.expr_syntax e)) c.whole_expression.new.input got
 
 pub returns-in_ok-expr-clause-reads : goal.returns-in_ok-expr-clause-reads
 returns-in_ok-expr-clause-reads g c =
