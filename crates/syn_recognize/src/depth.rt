@@ -1,6 +1,6 @@
 //! Whether what a rule reads is nested too deep for the parsers of trees, which recurse. The recognizer reads it without recursion and
 //! without a tree, and measures.
-ghost use Rattle.std.specs.Prelude.{◌≡◌, ◌<◌, IfErr};
+ghost use Rattle.std.specs.Prelude.{◌≡◌, ◌<◌, None, IfErr};
 ghost use Rattle.syn_grammar.specs.Run.{parse_rule};
 ghost use Rattle.syn_parse.specs.Nesting.{levels, nesting};
 ghost use Rattle.syn_parse.specs.Refusals.{IsSyntax};

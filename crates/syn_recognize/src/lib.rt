@@ -1,5 +1,5 @@
-//! Recognizes what a rule of the grammar reads, and writes its tokens, without building a tree. Also has trees that are stored as their
-//! tokens.
+//! Recognizes what a rule of the grammar reads, and writes its tokens, without building a tree; or measures how deep its tree would be
+//! nested. Also has trees that are stored as their tokens.
 #![tactic(auto)]
 
 mod aside;

@@ -71,28 +71,31 @@ impl Writer {
         Writer::empty(alloc, true)
     }
 
-    /// An output that is dropped.
-    pub(crate) fn dropping(alloc: Global) -> Writer
+    /// An output that is dropped, and what is measured meanwhile.
+    fn dropped(alloc: Global, measure: Option<Measure>) -> Writer
         ensures { result ≡ unwritten }
     {
         Writer {
             out: None,
             printing: false,
-            measure: None,
+            measure,
             alloc,
         }
+    }
+
+    /// An output that is dropped.
+    pub(crate) fn dropping(alloc: Global) -> Writer
+        ensures { result ≡ unwritten }
+    {
+        Writer::dropped(alloc, None)
     }
 
     /// An output that is dropped. It is measured how deep the tree is nested that this rule reads.
     pub(crate) fn measuring(rule: Rule, input: &ParseBuffer<'_>) -> Result<Writer, AllocError>
         ensures { IfOk result (λ out. out ≡ unwritten) }
     {
-        Ok(Writer {
-            out: None,
-            printing: false,
-            measure: Some(Measure::new(rule, input)?),
-            alloc: input.alloc(),
-        })
+        let measure = Measure::new(rule, input)?;
+        Ok(Writer::dropped(input.alloc(), Some(measure)))
     }
 
     /// Whether it is measured how deep trees are nested.
@@ -275,10 +278,7 @@ impl Writer {
         ensures before { IfOk result (λ before. before.value ≡ self.old) }
         ensures dropping { OnOk result (self.new ≡ unwritten) }
     {
-        let aside = Writer {
-            measure: self.measure,
-            ..Writer::dropping(self.alloc)
-        };
+        let aside = Writer::dropped(self.alloc, self.measure);
         let before = mem::replace(self, aside);
         Ok(Box::new(self.alloc, before)?)
     }
@@ -287,7 +287,7 @@ impl Writer {
     pub(crate) fn drop_all(&mut self)
         ensures { self.new ≡ unwritten }
     {
-        *self = Writer::dropping(self.alloc);
+        *self = Writer::dropped(self.alloc, self.measure);
     }
 
     /// Restores the output that was set aside, and drops what was written aside.
