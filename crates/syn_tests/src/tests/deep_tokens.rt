@@ -10,7 +10,7 @@ use syn::{
     TraitBound, Type, TypeParamBound, Visibility, parse2,
 };
 
-const DEEP: usize = 1_000;
+const DEEP: usize = 500;
 
 /// A beginning, a text that is repeated, one inside, one that is repeated as often, and an end.
 type Repeated = [&'static str; 5];
