@@ -68,13 +68,16 @@ fn what_is_stored_in_expressions(rt: HostRuntime) {
     }
 }
 
-/// Items that are kept verbatim, but not before a type or generics were parsed.
+/// Items that are kept verbatim, or parts of them, mostly after a type or generics were parsed.
 const LATE: &[Repeated] = &[
     ["fn f(a: ", "&", "u8", "", ");"],
     ["static A: ", "&", "u8", "", ";"],
     ["type A<B: ", "C<", "u8", ">", ">: D;"],
     ["type A<B: ", "C<", "u8", ">", ">;"],
-    ["pub impl ", "A<", "u8", ">", " {}"],
+    ["const impl ", "A<", "u8", ">", " for B {}"],
+    ["trait A<B: ", "C<", "u8", ">", "> = D;"],
+    ["struct A { _: ", "struct { _: ", "u8", " }", " }"],
+    ["use {", "a::", "b", "", ", ::c};"],
     ["impl A { fn f(a: ", "&", "u8", "", "); }"],
     ["impl A { const B: ", "&", "u8", "", "; }"],
     ["impl A { type B<C: ", "D<", "u8", ">", ">; }"],
