@@ -54,10 +54,15 @@ closed n p = record p { inside = max p.inside n; most = max p.most (p.run + max 
 abbrev pub followed : Before → Place → Place
 followed b p = record p { before = b }
 
--- after braces, at a token that may begin a statement or an item
+-- after braces, at a token that begins a statement or an item
 abbrev pub begun : Before → Place → Place
 begun Braces p = renewed p
 begun b p = p
+
+-- after braces, at a word
+abbrev pub begun_word : Text → Before → Place → Place
+begun_word x Braces p = pick (goes_on x) p (renewed p)
+begun_word x b p = p
 
 abbrev pub is_pound : Before → Bool
 is_pound Pound = true
@@ -69,10 +74,15 @@ is_dash b = false
 
 -- EACH TOKEN
 
+-- a word
 unfoldable pub after_word : Text → Place → Place
 after_word x p =
-    let q = pick (goes_on x) p (begun p.before p) in
+    let q = begun_word x p.before p in
     followed Other (pick (nests x) (counted q) q)
+
+-- a literal
+abbrev pub after_literal : Place → Place
+after_literal p = followed Other (begun p.before p)
 
 -- an element ends at `,` outside of `< >`
 abbrev pub comma : Place → Place
@@ -89,24 +99,24 @@ greater p = pick (is_dash p.before) (counted p) (record (counted p) { angles = p
 abbrev pub exclamation : Place → Place
 exclamation p = pick (is_pound p.before) p (counted p)
 
--- a statement or an item ends at `;`; a lifetime after braces labels a statement
+-- a statement or an item ends at `;`; after braces an attribute or a label begins one
 unfoldable pub marked : ℕ → Place → Place
 marked c p =
-    pick (nat_eq c 44) (comma p)
-    (pick (nat_eq c 59) (renewed p)
-    (pick (nat_eq c 35) (begun p.before p)
-    (pick (nat_eq c 33) (exclamation p)
-    (pick (nat_eq c 39) (counted (begun p.before p))
-    (pick (nat_eq c 60) (less p)
-    (pick (nat_eq c 62) (greater p)
+    pick (nat_eq c 44) (comma p)  -- ,
+    (pick (nat_eq c 59) (renewed p)  -- ;
+    (pick (nat_eq c 35) (begun p.before p)  -- #
+    (pick (nat_eq c 33) (exclamation p)  -- !
+    (pick (nat_eq c 39) (counted (begun p.before p))  -- '
+    (pick (nat_eq c 60) (less p)  -- <
+    (pick (nat_eq c 62) (greater p)  -- >
     (counted p)))))))
 
 -- the character of a mark, as the token before the next one: `#` or `#!`, or the first of `->`, `=>` and the like
 unfoldable pub mark_before : ℕ → Bool → Before → Before
 mark_before c joint b =
-    pick (nat_eq c 35) Pound
-    (pick (nat_eq c 33) (pick (is_pound b) Pound Other)
-    (pick (or (nat_eq c 45) (nat_eq c 61)) (pick joint Dash Other) Other))
+    pick (nat_eq c 35) Pound  -- #
+    (pick (nat_eq c 33) (pick (is_pound b) Pound Other)  -- !
+    (pick (or (nat_eq c 45) (nat_eq c 61)) (pick joint Dash Other) Other))  -- - =
 
 unfoldable pub after_mark : ℕ → Bool → Place → Place
 after_mark c joint p = followed (mark_before c joint p.before) (marked c p)
@@ -122,7 +132,7 @@ at_group d p = followed (group_before d) (pick (is_pound p.before) p (counted p)
 -- after the next tree; of a group, before its content
 abbrev pub after : TokenTreeRef → Place → Place
 after (N.Ident i) p = after_word i.text p
-after (N.Literal l) p = followed Other p
+after (N.Literal l) p = after_literal p
 after (N.Punct c) p = after_mark c.character (is_joint c.spacing) p
 after (N.Group g) p = at_group (delimiter_of g.delimiter) p
 
@@ -132,7 +142,7 @@ after (N.Group g) p = at_group (delimiter_of g.delimiter) p
 unfoldable pub seen : Place → Stream → ℕ
 seen p end = p.most
 seen p (leaf (ident x) sp m) = seen (after_word x p) m
-seen p (leaf (literal k x) sp m) = seen (followed Other p) m
+seen p (leaf (literal k x) sp m) = seen (after_literal p) m
 seen p (punct c joint sp m) = seen (after_mark c joint p) m
 seen p (group d o c i m) = seen (closed (seen start i) (at_group d p)) m
 

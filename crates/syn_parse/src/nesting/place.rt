@@ -1,9 +1,10 @@
 //! What was seen of a stream, or of a group's content, up to a token: what may nest what follows, or be linked to it.
 ghost use Rattle.std.specs.Prelude.{◌≡◌, ◌≤◌};
+ghost use Rattle.syn_grammar.specs.Tokens.{pick};
 ghost use Rattle.syn_tokens.specs.Delimiters.{delimiter_of};
 ghost use Rattle.syn_tokens.specs.Punct.{is_joint};
 ghost use Rattle.syn_parse.specs.Nesting as places;
-ghost use Rattle.syn_parse.specs.Nesting.{levels, Ordered, begun, comma, counted, exclamation, followed, greater, group_before, is_dash, is_pound, less, renewed};
+ghost use Rattle.syn_parse.specs.Nesting.{levels, Ordered, begun, begun_word, comma, counted, exclamation, followed, greater, group_before, is_dash, is_pound, less, renewed};
 
 use syn_tokens::delimiter::Delimiter;
 use syn_tokens::ident::ident_ref::IdentRef;
@@ -62,8 +63,19 @@ pub(crate) struct Place {
 }
 
 /// Whether what follows the word is nested in what begins with it, or it is linked to what is before.
-#[tactic(auto, unfolding(crate::specs::Nesting::nests))]
+#[tactic(auto, using(crate::proofs::Nested::no_keyword_nests))]
 fn nests(word: &IdentRef<'_>) -> bool
+    ensures { result ≡ places.nests word.now.text }
+{
+    if !word.is_keyword() {
+        return false;
+    }
+    keyword_nests(word)
+}
+
+/// The same of a keyword.
+#[tactic(auto, unfolding(crate::specs::Nesting::nests))]
+fn keyword_nests(word: &IdentRef<'_>) -> bool
     ensures { result ≡ places.nests word.now.text }
 {
     word.is("as") || word.is("for") || word.is("if") || word.is("return") || word.is("while")
@@ -131,7 +143,7 @@ impl Place {
         }
     }
 
-    /// At a token that begins a statement or an item, if it is after braces.
+    /// At a token that begins a statement or an item after braces.
     fn begun(self) -> Place
         requires ordered { Ordered self }
         ensures place { result ≡ begun self.before self }
@@ -143,6 +155,35 @@ impl Place {
             Before::Other => self,
             Before::Dash => self,
             Before::Pound => self,
+        }
+    }
+
+    /// At a word, which may begin one.
+    fn begun_word(self, word: &IdentRef<'_>) -> Place
+        requires ordered { Ordered self }
+        ensures place { result ≡ begun_word word.now.text self.before self }
+        ensures ordered { Ordered result }
+        ensures most { result.most ≡ self.most }
+    {
+        match self.before {
+            Before::Braces => self.renewed_at(word),
+            Before::Other => self,
+            Before::Dash => self,
+            Before::Pound => self,
+        }
+    }
+
+    /// At a word after braces.
+    fn renewed_at(self, word: &IdentRef<'_>) -> Place
+        requires ordered { Ordered self }
+        ensures place { result ≡ pick (places.goes_on word.now.text) self (renewed self) }
+        ensures ordered { Ordered result }
+        ensures most { result.most ≡ self.most }
+    {
+        if goes_on(word) {
+            self
+        } else {
+            self.renewed()
         }
     }
 
@@ -194,7 +235,7 @@ impl Place {
         ensures place { result ≡ places.after_word word.now.text self }
         ensures ordered { Ordered result }
     {
-        let place = if goes_on(word) { self } else { self.begun() };
+        let place = self.begun_word(word);
         if nests(word) {
             place.counted().followed(Before::Other)
         } else {
@@ -317,7 +358,7 @@ impl Place {
     {
         match tree {
             TokenTreeRef::Ident(word) => self.after_word(word),
-            TokenTreeRef::Literal(_) => self.followed(Before::Other),
+            TokenTreeRef::Literal(_) => self.begun().followed(Before::Other),
             TokenTreeRef::Punct(mark) => self.after_mark(mark),
             TokenTreeRef::Group(group) => self.at_group(group.delimiter),
         }
