@@ -17,7 +17,11 @@ pub mod KindsOfWords
 pub mod Leaves
 pub mod Listing
 pub mod Lists
+pub mod LiteralContents
+pub mod LiteralTexts
+pub mod LiteralValues
 pub mod Literals
+pub mod Numbers
 pub mod CompactSpans
 pub mod Packed
 pub mod Ordered
@@ -26,6 +30,7 @@ pub mod Punct
 pub mod Rows
 pub mod SameEntries
 pub mod SameStreams
+pub mod Scans
 pub mod Spans
 pub mod Spelled
 pub mod Texts

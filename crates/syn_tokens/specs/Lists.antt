@@ -1,5 +1,5 @@
 -- Values with separators between them.
-use Rattle.std.specs.Prelude.{List, [], ◌∷◌, ◌++◌, map, Option, Some, None, refl}
+use Rattle.std.specs.Prelude.{◌≡◌, List, [], ◌∷◌, ◌++◌, map, Option, Some, None, MatchOption, refl}
 use Rattle.std.specs.Coded.{Coded, code_by, coded×, coded_list, coded_option}
 
 -- the values that are followed by a separator, with it, and the last one if none follows it
@@ -25,6 +25,12 @@ module _ {T P : Type 0} where
   -- the values alone, in order
   abbrev pub values : Sequence T P → List T
   values s = firsts s.pairs ++ listed s.last
+
+  -- the list with this value at its end; a last value without a separator is followed by one that passes the test
+  abbrev pub IsPushed : (P → Type 0) → T → Sequence T P → Sequence T P → Type 0
+  IsPushed is_made value old new =
+      MatchOption old.last (new ≡ record old { last = Some value })
+      (λ t. (p : P) × is_made p × (new ≡ record { pairs = old.pairs ++ (t, p) ∷ []; last = Some value }))
 
 -- the content of an optional value
 abbrev pub items_in : {S X : Type 0} → (S → List X) → Option S → List X

@@ -1,9 +1,9 @@
 //! Identifiers.
-ghost use Rattle.std.specs.Prelude.{◌≡◌, ◌∷◌, [], IfOk, IfErr, IsTrue, codes, if◌then◌else◌};
+ghost use Rattle.std.specs.Prelude.{◌≡◌, ◌∷◌, [], Some, IfOk, IfErr, IsTrue, codes, if◌then◌else◌};
 ghost use Rattle.std.specs.Cmp.{on_equiv, on_per};
 ghost use Rattle.syn_grammar.specs.Tokens.{same_text};
 ghost use Rattle.syn_tokens.specs.Equal.{same_text_equiv, same_text_per};
-ghost use Rattle.syn_tokens.specs.Idents.{is_keyword, is_identifier};
+ghost use Rattle.syn_tokens.specs.Idents.{is_keyword, is_identifier, without_raw};
 ghost use Rattle.syn_tokens.specs.Faults.{out_of_memory, syntax_error};
 
 use crate::error::{Error, Result};
@@ -13,6 +13,7 @@ use crate::ident::keyword::is_keyword;
 use crate::span::Span;
 use crate::text::Text;
 use std::alloc::{AllocError, Global};
+use std::fmt;
 use std::marker::Model;
 
 pub mod ident_ref;
@@ -51,6 +52,15 @@ impl PartialEq for Ident {
 
 impl Eq for Ident {
     ghost laws = { on_equiv (λ i. i.text) same_text_equiv };
+}
+
+/// The text, with `r#` if the identifier is raw.
+impl fmt::Display for Ident {
+    ghost output = { λ i. Some i.text };
+
+    fn fmt<W: fmt::Write>(&self, f: &mut fmt::Formatter<W>) -> fmt::Result {
+        f.write_str(self.text())
+    }
 }
 
 impl Ident {
@@ -134,6 +144,17 @@ impl Ident {
         ensures { result.now ≡ self.now.text }
     {
         self.text.as_str()
+    }
+
+    /// The text without the `r#` of a raw identifier. It allocates nothing.
+    #[tactic(auto, unfolding(crate::specs::Idents::without_raw))]
+    pub fn unraw(&self) -> &str
+        ensures { result.now ≡ without_raw self.now.text }
+    {
+        match self.text().strip_prefix("r#") {
+            Some(name) => name,
+            None => self.text(),
+        }
     }
 
     /// Whether it is a keyword, such as `struct`; `r#struct` is a name.

@@ -1,5 +1,5 @@
 //! Literals.
-ghost use Rattle.std.specs.Prelude.{◌≡◌, ◌∷◌, [], IfOk, IfErr};
+ghost use Rattle.std.specs.Prelude.{◌≡◌, ◌∷◌, [], Some, IfOk, IfErr};
 ghost use Rattle.std.specs.Cmp.{on_equiv, on_per};
 ghost use Rattle.syn_grammar.specs.Tokens.{same_text};
 ghost use Rattle.syn_tokens.specs.Equal.{same_text_equiv, same_text_per};
@@ -10,9 +10,16 @@ use crate::literal::literal_ref::LiteralRef;
 use crate::span::Span;
 use crate::text::Text;
 use std::alloc::{AllocError, Global};
+use std::fmt;
 use std::marker::Model;
 
+mod content;
+mod integers;
 pub mod literal_ref;
+mod made;
+mod numbers;
+mod scan;
+mod values;
 
 /// The kind of a literal.
 #[derive(Clone, Copy, Debug, PartialEq, Eq)]
@@ -66,6 +73,15 @@ impl Eq for Literal {
     ghost use Rattle.syn_tokens.specs.Literals.{spelling};
 
     ghost laws = { on_equiv spelling same_text_equiv };
+}
+
+/// The text, with quotes and suffix.
+impl fmt::Display for Literal {
+    ghost output = { λ l. Some l.text };
+
+    fn fmt<W: fmt::Write>(&self, f: &mut fmt::Formatter<W>) -> fmt::Result {
+        f.write_str(self.text())
+    }
 }
 
 impl Literal {

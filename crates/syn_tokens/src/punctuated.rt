@@ -4,7 +4,9 @@ ghost use Rattle.std.specs.Option.{option_copied};
 ghost use Rattle.std.specs.Vec.{vec_len, vec_capacity};
 ghost use Rattle.syn_tokens.specs.Lists.{nothing_listed, values};
 
+mod indices;
 pub mod iterators;
+mod pushes;
 
 use std::alloc::{AllocError, Global};
 use std::marker::Model;

@@ -22,6 +22,11 @@ impl<T: Syntactic> Syntactic for Option<T> {
     ghost syntax = { maybe T.syntax };
 }
 
+/// What it refers to.
+impl<T: Syntactic> Syntactic for &T {
+    ghost syntax = { λ r. T.syntax r.now };
+}
+
 impl<T: Syntactic> Syntactic for Box<T> {
     ghost syntax = { λ b. T.syntax b.value };
 }

@@ -60,6 +60,13 @@ impl<T: Print> Print for Option<T> {
     }
 }
 
+/// What it refers to.
+impl<T: Print> Print for &T {
+    fn print_in(&self, out: &mut StreamBuilder) -> Result<(), AllocError> {
+        (**self).print_in(out)
+    }
+}
+
 impl<T: Print> Print for Box<T> {
     fn print_in(&self, out: &mut StreamBuilder) -> Result<(), AllocError> {
         (**self).print_in(out)
@@ -79,5 +86,7 @@ impl<K: WordKind> ToTokens for Word<K> {}
 impl<K: MarkKind<N>, const N: usize> ToTokens for Mark<K, N> {}
 
 impl<T: ToTokens> ToTokens for Option<T> {}
+
+impl<T: ToTokens> ToTokens for &T {}
 
 impl<T: ToTokens> ToTokens for Box<T> {}
