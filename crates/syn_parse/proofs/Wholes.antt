@@ -6,7 +6,7 @@ use Rattle.syn_grammar.specs.Grammar.{Syntax}
 use Rattle.syn_grammar.specs.Take.{Out, is_end, only}
 use Rattle.syn_grammar.specs.Run.{value_of}
 use Rattle.syn_grammar.proofs.Takes.{end_found}
-use Rattle.syn_parse.specs.Form.{Form, of, keyword, ◌followed_by◌, choice, in_group, list, such_that, parse, Derives, Meaning, NotDerivedWhole, WholeOutcome}
+use Rattle.syn_parse.specs.Form.{Form, of, keyword, ◌followed_by◌, choice, in_group, list, such_that, any_tree, all_left, parse, Derives, Meaning, NotDerivedWhole, WholeOutcome}
 
 -- an error that is propagated
 pub whole_err : {X E : Type 0} (refusal : E → Type 0) (view : X → Syntax) (f : Form) (ts : Stream) (r : Result X E) (e : E) →
@@ -23,6 +23,8 @@ whole_unread (choice c f g) ts u = u
 whole_unread (in_group d f) ts u = u
 whole_unread (list f g) ts u = u
 whole_unread (such_that q f) ts u = u
+whole_unread any_tree ts u = u
+whole_unread all_left ts u = u
 
 -- the parser failed
 pub whole_refused : (f : Form) → Meaning f → (ts : Stream) → visible ts ≡ true → parse f ts ≡ None → NotDerivedWhole f ts

@@ -1,12 +1,12 @@
 -- FORMS: the grammars of types. A form is one of the grammar, a token that the grammar doesn't know, or composed of forms.
 -- `parse` is the parser of a form, `Derives` its derivation relation in terms of the grammar; `Meaning` states that they agree.
-use Rattle.std.specs.Prelude.{◌≡◌, ◌↔◌, ◌⊎◌, ◌<◌, ◌≤◌, Bool, true, false, Some, None, Result, Ok, Err}
+use Rattle.std.specs.Prelude.{◌≡◌, ◌↔◌, ◌⊎◌, ◌<◌, ◌≤◌, Bool, true, false, [], Some, None, Result, Ok, Err}
 use Rattle.syn_grammar.specs.Words.{Text}
-use Rattle.syn_grammar.specs.Tokens.{Span, Delimiter, ident, Stream, end, leaf, group, visible, same_text, Look, present, or, and, no}
+use Rattle.syn_grammar.specs.Tokens.{Span, Delimiter, ident, Stream, end, leaf, punct, group, ◌⧺◌, visible, same_text, Look, present, or, and, no}
 use Rattle.syn_grammar.specs.Grammar as grammar
-use Rattle.syn_grammar.specs.Grammar.{Grammar, Syntax, Nothing, Token, Both, Left, Right, Group}
+use Rattle.syn_grammar.specs.Grammar.{Grammar, Syntax, Nothing, Token, Both, Left, Right, Group, Rest}
 use Rattle.syn_grammar.specs.Table.{table}
-use Rattle.syn_grammar.specs.Take.{Out, Parser, only, left, sees, take_mark, take_group, taken}
+use Rattle.syn_grammar.specs.Take.{Out, Parser, only, left, length, sees, take_mark, take_group, taken}
 use Rattle.syn_grammar.specs.Run as run
 use Rattle.syn_grammar.specs.Run.{and_then, branch, within}
 use Rattle.syn_grammar.specs.Promises as says
@@ -53,6 +53,8 @@ pub data Form : Type 0 where
   in_group : Delimiter → Form → Form  -- a group with this delimiter, whose whole content is of the form
   list : Form → Form → Form  -- elements with separators between them, up to the end of the group or stream; the trailing separator is optional
   such_that : (Syntax → Bool) → Form → Form  -- a form, restricted to trees that pass this test
+  any_tree : Form  -- one token tree, stored as it is
+  all_left : Form  -- all that is left of the group or stream, stored as it is
 
 infixr 40 ◌followed_by◌
 -- a part that is present if the condition holds
@@ -62,6 +64,30 @@ optional c f = choice c f (of grammar.empty)
 -- these characters, all but the last joint
 abbrev pub punctuation : Text → Form
 punctuation x = of (grammar.mark false x)
+
+-- the next token tree
+unfoldable pub take_tree : Parser
+take_tree end = None
+take_tree (leaf x sp r) = Some (Rest [] (leaf x sp end), r)
+take_tree (punct c j sp r) = Some (Rest [] (punct c j sp end), r)
+take_tree (group d o c i r) = Some (Rest [] (group d o c i end), r)
+
+abbrev begins_group : Stream → Bool
+begins_group (group d o c i r) = true
+begins_group _ = false
+
+abbrev begins_punct : Stream → Bool
+begins_punct (punct c j sp r) = true
+begins_punct _ = false
+
+-- the tree that was stored is a group; a character of a mark
+abbrev pub is_group_tree : Syntax → Bool
+is_group_tree (Rest xs s) = begins_group s
+is_group_tree _ = false
+
+abbrev pub is_punct_tree : Syntax → Bool
+is_punct_tree (Rest xs s) = begins_punct s
+is_punct_tree _ = false
 
 -- the result, if its tree passes the test
 abbrev pub if_tree : (Syntax → Bool) → Out → Out
@@ -77,6 +103,8 @@ parse (choice c f g) = λ ts. branch (meets c ts) (parse f ts) (parse g ts)
 parse (in_group d f) = λ ts. within d (take_group d ts) (parse f)
 parse (list f g) = terminated (parse f) (parse g)
 parse (such_that q f) = λ ts. if_tree q (parse f ts)
+parse any_tree = take_tree
+parse all_left = λ ts. Some (Rest [] ts, end)
 
 -- THE DERIVATION: the form derives a tree from the stream ts, whose value holds s, and r remains
 abbrev pub Derives : Form → Syntax → Stream → Stream → Type 0
@@ -89,6 +117,8 @@ Derives (choice c f g) s ts r =
 Derives (in_group d f) s ts r = (o c : Span) × (content : Stream) × (a : Syntax) × (s ≡ Group d o c a) × (ts ≡ group d o c content r) × Derives f a content end
 Derives (list f g) s ts r = (l : Sequence Syntax Syntax) × (s ≡ list_of itself itself l.pairs l.last) × (r ≡ end) × DerivesList (Derives f) (Derives g) itself itself l.pairs l.last ts
 Derives (such_that q f) s ts r = (q s ≡ true) × Derives f s ts r
+Derives any_tree s ts r = (tree : Stream) × (length tree ≡ 1) × (s ≡ Rest [] tree) × (ts ≡ tree ⧺ r)
+Derives all_left s ts r = (s ≡ Rest [] ts) × (r ≡ end)
 
 -- the form derives nothing from here
 abbrev pub NotDerived : Form → Stream → Type 0
@@ -104,6 +134,8 @@ reads_some (choice c f g) = and (reads_some f) (reads_some g)
 reads_some (in_group d f) = true
 reads_some (list f g) = false
 reads_some (such_that q f) = reads_some f
+reads_some any_tree = true
+reads_some all_left = false
 
 -- well formed: the alternatives in forms of the grammar exclude each other, and the separators of lists consume a token
 abbrev pub is_sound : Form → Bool
@@ -114,6 +146,8 @@ is_sound (choice c f g) = and (is_sound f) (is_sound g)
 is_sound (in_group d f) = is_sound f
 is_sound (list f g) = and (reads_some g) (and (is_sound f) (is_sound g))
 is_sound (such_that q f) = is_sound f
+is_sound any_tree = true
+is_sound all_left = true
 
 -- THE PARSER AND THE DERIVATION AGREE on visible streams; and on every stream the parser never leaves more tokens
 pub record Meaning (f : Form) : Type 0 where

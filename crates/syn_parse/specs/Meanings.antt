@@ -1,10 +1,10 @@
 -- EVERY WELL-FORMED FORM AGREES WITH ITS PARSER. (The proof is in the specs, since parsed types cite it.)
-use Rattle.std.proofs.Common.{◌≡◌, ◌<◌, ◌≤◌, Bool, true, false, Some, None, ◌⊎◌, inl, inr, refl, sym, ap, ◌∙◌, subst, arith}
+use Rattle.std.proofs.Common.{◌≡◌, ◌<◌, ◌≤◌, Bool, true, false, [], Some, None, ◌⊎◌, inl, inr, refl, sym, ap, ◌∙◌, subst, arith}
 use Rattle.syn_grammar.specs.Words.{Text}
-use Rattle.syn_grammar.specs.Tokens.{Span, Delimiter, ident, literal, Stream, end, leaf, punct, group, and, or, no, is_visible, visible, same_text}
+use Rattle.syn_grammar.specs.Tokens.{Span, Delimiter, ident, literal, Stream, end, leaf, punct, group, ◌⧺◌, and, or, no, is_visible, visible, same_text}
 use Rattle.syn_grammar.specs.Rules.{Rule}
-use Rattle.syn_grammar.specs.Grammar.{rule, empty, Syntax, Nothing, Token, Both, Left, Right, Group}
-use Rattle.syn_grammar.specs.Take.{Out, Parser, only, left, take_group}
+use Rattle.syn_grammar.specs.Grammar.{rule, empty, Syntax, Nothing, Token, Both, Left, Right, Group, Rest}
+use Rattle.syn_grammar.specs.Take.{Out, Parser, only, left, length, take_group}
 use Rattle.syn_grammar.specs.Run.{and_then, branch, wrap, close, within, parse_rule}
 use Rattle.syn_grammar.specs.Promises as says
 use Rattle.syn_grammar.proofs.FirstSets.{nullable}
@@ -12,9 +12,10 @@ use Rattle.syn_grammar.proofs.Said.{start_of}
 use Rattle.syn_grammar.proofs.Sets.{and_left, and_right, same_text_eq, same_text_refl}
 use Rattle.syn_grammar.proofs.Takes.{TreeAndRest, inv_only, sees_is, end_known, end_found, group_less, group_known, group_found}
 use Rattle.syn_grammar.proofs.Means.{rest_seen}
+use Rattle.syn_grammar.proofs.Streams.{visible_append}
 use Rattle.syn_grammar.proofs.Run.{Falls, Less, inv_wrap, inv_then, inv_within, parse_falls, runs_shrinks, parse_rule_less}
 use Rattle.syn_grammar.proofs.Outcomes.{meaning_of as grammar_means}
-use Rattle.syn_parse.specs.Form.{Condition, by, at_keyword, at_punctuation, take_keyword, meets, is_next, Form, of, keyword, ◌followed_by◌, choice, in_group, list, such_that, optional, if_tree, parse, Derives, NotDerived, reads_some, is_sound, Meaning}
+use Rattle.syn_parse.specs.Form.{Condition, by, at_keyword, at_punctuation, take_keyword, meets, is_next, Form, of, keyword, ◌followed_by◌, choice, in_group, list, such_that, any_tree, all_left, optional, if_tree, take_tree, parse, Derives, NotDerived, reads_some, is_sound, Meaning}
 use Rattle.syn_parse.specs.TerminatedLists.{Shorter, Law, terminated_is, list_split, list_found, list_falls}
 
 -- which token a keyword form parses
@@ -44,6 +45,41 @@ keyword_found : (x : Text) (ts : Stream) (s : Syntax) (r : Stream) → Derives (
 unfolding take_keyword
 keyword_found x ts s r (sp, a, b) = ap (take_keyword x) b ∙ ap (λ w. only w (Some (Token (ident x) sp, r))) (same_text_refl x) ∙ ap (λ w. Some (w, r)) (sym a)
 
+-- which tree comes next
+tree_less : (ts : Stream) (y : TreeAndRest) → take_tree ts ≡ Some y → left y.1 < left ts
+unfolding take_tree left
+tree_less end y e = absurd (cc e)
+tree_less (leaf x sp r) y e = let a : y.1 ≡ r = cc e in rw a (omega arith)
+tree_less (punct c j sp r) y e = let a : y.1 ≡ r = cc e in rw a (omega arith)
+tree_less (group d o c i r) y e = let a : y.1 ≡ r = cc e in rw a (omega arith)
+
+left_none : (ts : Stream) → left end ≤ left ts
+unfolding left
+left_none ts = omega arith
+
+tree_known : (ts : Stream) (s : Syntax) (r : Stream) → take_tree ts ≡ Some (s, r) → Derives any_tree s ts r
+unfolding take_tree
+tree_known end s r e = absurd (cc e)
+tree_known (leaf x sp m) s r e = let a : m ≡ r = cc e in (leaf x sp end, refl, cc e, ap (leaf x sp) a)
+tree_known (punct c j sp m) s r e = let a : m ≡ r = cc e in (punct c j sp end, refl, cc e, ap (punct c j sp) a)
+tree_known (group d o c i m) s r e = let a : m ≡ r = cc e in (group d o c i end, refl, cc e, ap (group d o c i) a)
+
+no_trees : (m : Stream) → length m ≡ 0 → m ≡ end
+no_trees end e = refl
+no_trees (leaf x sp m) e = absurd (omega (arith, e))
+no_trees (punct c j sp m) e = absurd (omega (arith, e))
+no_trees (group d o c i m) e = absurd (omega (arith, e))
+
+one_tree : (tree r : Stream) → length tree ≡ 1 → take_tree (tree ⧺ r) ≡ Some (Rest [] tree, r)
+unfolding take_tree
+one_tree end r e = absurd (omega (arith, e))
+one_tree (leaf x sp m) r e = let a : m ≡ end = no_trees m (omega (arith, e)) in rw a refl
+one_tree (punct c j sp m) r e = let a : m ≡ end = no_trees m (omega (arith, e)) in rw a refl
+one_tree (group d o c i m) r e = let a : m ≡ end = no_trees m (omega (arith, e)) in rw a refl
+
+tree_found : (ts : Stream) (s : Syntax) (r : Stream) → Derives any_tree s ts r → take_tree ts ≡ Some (s, r)
+tree_found ts s r (tree, l, e, a) = ap take_tree a ∙ one_tree tree r l ∙ ap (λ z. Some (z, r)) (sym e)
+
 -- the computed condition agrees with the one that the grammar states
 meets_is : (c : Condition) (ts : Stream) → visible ts ≡ true → meets c ts ≡ is_next c ts
 meets_is (by c) ts v = sees_is c ts v
@@ -65,6 +101,8 @@ seen (choice c f g) s ts r (inr (a, h, e, x)) v = seen g a ts r x v
 seen (in_group d f) s ts r (o, c, i, a, e, h, x) v = (after_seen d o c ts i r h v).1
 seen (list f g) s ts r (l, e, h, x) v = ap visible h
 seen (such_that q f) s ts r (h, x) v = seen f s ts r x v
+seen any_tree s ts r (tree, l, e, a) v = and_right (visible tree) _ (sym (visible_append tree r) ∙ ap visible (sym a) ∙ v)
+seen all_left s ts r (e, h) v = ap visible h
 
 -- no more tokens remain, and fewer if a token is consumed
 less_then : (p : Parser) (ts m : Stream) → left m ≤ left ts → (r : Stream) → left r < left m → left r < left ts
@@ -146,6 +184,8 @@ fewer (list f g) w =
 fewer (such_that q f) w =
     let a = fewer f w in
     ((λ ts x e. a.0 ts x (inv_tree q (parse f ts) x e).1), λ s ts x e. a.1 s ts x (inv_tree q (parse f ts) x e).1)
+fewer any_tree w = ((λ ts y e. let h = tree_less ts y e in omega (arith, h)), λ s. tree_less)
+fewer all_left w = ((λ ts y e. let a : y.1 ≡ end = cc e in rw a (left_none ts)), λ s. absurd (cc s))
 
 falls_of : (f : Form) → is_sound f ≡ true → Falls (parse f)
 falls_of f w = (fewer f w).0
@@ -257,6 +297,18 @@ law_of (such_that q f) w =
       falls = falls_of (such_that q f) w;
       seen = seen (such_that q f);
     }
+law_of any_tree w = record {
+  reported = λ ts s r v e. tree_known ts s r e;
+  found = λ ts s r v d. tree_found ts s r d;
+  falls = falls_of any_tree w;
+  seen = seen any_tree;
+}
+law_of all_left w = record {
+  reported = λ ts s r v e. (cc e, cc e);
+  found = λ ts s r v d. ap (λ z. Some (z, end)) (sym d.0) ∙ ap (λ z. Some (s, z)) (sym d.1);
+  falls = falls_of all_left w;
+  seen = seen all_left;
+}
 
 -- the parser computes nothing exactly if nothing is derived
 none_is : (f : Form) → Law (parse f) (Derives f) → (ts : Stream) → visible ts ≡ true → parse f ts ≡ None → (s : Syntax) (r : Stream) → Derives f s ts r → ⊥
@@ -277,6 +329,8 @@ refused_of (choice c f g) w l ts v = (none_is (choice c f g) l ts v, is_none (ch
 refused_of (in_group d f) w l ts v = (none_is (in_group d f) l ts v, is_none (in_group d f) l ts v)
 refused_of (list f g) w l ts v = (none_is (list f g) l ts v, is_none (list f g) l ts v)
 refused_of (such_that q f) w l ts v = (none_is (such_that q f) l ts v, is_none (such_that q f) l ts v)
+refused_of any_tree w l ts v = (none_is any_tree l ts v, is_none any_tree l ts v)
+refused_of all_left w l ts v = (none_is all_left l ts v, is_none all_left l ts v)
 
 -- EVERY WELL-FORMED FORM AGREES WITH ITS PARSER
 pub meaning_of : (f : Form) → is_sound f ≡ true → Meaning f

@@ -32,8 +32,10 @@ mod custom;
 pub mod first;
 mod first_token;
 mod leaves;
+mod literals;
 mod marks;
 mod public;
+mod trees;
 
 /// The remaining token trees, and the span of their end.
 #[derive(Drop)]
@@ -106,6 +108,17 @@ impl<'a> ParseBuffer<'a> {
             alloc: stream.alloc(),
             stack_left: STACK,
             chains_fit: false,
+        }
+    }
+
+    /// A buffer over the content of a group, whose closing delimiter has this span: that is the place of a fault at the end.
+    pub fn within(content: &'a TokenStream, closing: Span) -> ParseBuffer<'a>
+        ensures { result ≡ content.now }
+    {
+        let buffer = ParseBuffer::new(content);
+        ParseBuffer {
+            end: closing,
+            ..buffer
         }
     }
 

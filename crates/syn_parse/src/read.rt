@@ -16,6 +16,7 @@ mod leaf;
 pub mod lists;
 pub mod refusal;
 mod token;
+mod trees;
 
 pub use token::ReadMark;
 

@@ -1,11 +1,13 @@
 -- The stream of a list of token trees.
 use Rattle.std.specs.Prelude.{List, [], ◌∷◌}
 use Rattle.syn_grammar.specs.Tokens.{ident, literal, Stream, end, leaf, punct, group}
+use Rattle.syn_grammar.specs.Grammar.{Syntax, Rest}
 use Rattle.syn_tokens.specs.Spans.{at}
 use Rattle.syn_tokens.specs.Delimiters.{delimiter_of}
-use Rattle.syn_tokens.specs.Punct.{is_joint}
+use Rattle.syn_tokens.specs.Punct.{PunctValue, is_joint}
 use Rattle.syn_tokens.specs.Literals.{kind_of}
 use Rattle.syn_tokens.specs.declared.span.Span.{Span}
+use Rattle.syn_tokens.specs.declared.stream.tree.Group.{Group}
 use Rattle.syn_tokens.specs.declared.stream.tree.TokenTree.{TokenTree}
 use Rattle.syn_tokens.specs.declared.stream.tree.TokenTree.TheVariants as T
 
@@ -26,3 +28,13 @@ span_of (T.Ident i) = i.span
 span_of (T.Literal l) = l.span
 span_of (T.Punct p) = p.span
 span_of (T.Group x) = x.opening
+
+-- trees as syntax: tokens as they are, with their spacing
+abbrev pub syntax_of_tree : TokenTree → Syntax
+syntax_of_tree t = Rest [] (before t end)
+
+abbrev pub syntax_of_group : Group → Syntax
+syntax_of_group g = Rest [] (before (T.Group g) end)
+
+abbrev pub syntax_of_punct : PunctValue → Syntax
+syntax_of_punct p = Rest [] (before (T.Punct p) end)

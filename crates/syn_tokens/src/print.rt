@@ -7,6 +7,7 @@ ghost use Rattle.syn_tokens.specs.Faults.{out_of_memory};
 
 mod leaves;
 mod lists;
+mod trees;
 
 use crate::error::{Error, Result};
 use crate::stream::TokenStream;

@@ -4,11 +4,14 @@ ghost use Rattle.syn_grammar.specs.Grammar.{Rest, Syntax};
 ghost use Rattle.syn_tokens.specs.InOrder.{in_order, pair_of};
 ghost use Rattle.syn_tokens.specs.Leaves.{maybe, syntax_of_ident, syntax_of_literal};
 ghost use Rattle.syn_tokens.specs.Listing.{syntax_of_list};
+ghost use Rattle.syn_tokens.specs.Trees.{syntax_of_group, syntax_of_punct, syntax_of_tree};
 
 use crate::ident::Ident;
 use crate::literal::Literal;
+use crate::punct::Punct;
 use crate::punctuated::Punctuated;
 use crate::stream::TokenStream;
+use crate::stream::tree::{Group, TokenTree};
 
 pub mod compare;
 pub mod try_clone;
@@ -42,6 +45,18 @@ impl Syntactic for Literal {
 /// Token streams represent themselves.
 impl Syntactic for TokenStream {
     ghost syntax = { λ s. Rest [] s };
+}
+
+impl Syntactic for TokenTree {
+    ghost syntax = { syntax_of_tree };
+}
+
+impl Syntactic for Group {
+    ghost syntax = { syntax_of_group };
+}
+
+impl Syntactic for Punct {
+    ghost syntax = { syntax_of_punct };
 }
 
 impl<T: Syntactic, P: Syntactic> Syntactic for (T, P) {

@@ -8,10 +8,12 @@ ghost use Rattle.syn_tokens.specs.Trees.{stream_of, before};
 ghost use Rattle.syn_tokens.specs.Cursors.{before_next};
 ghost use Rattle.syn_tokens.specs.Places.{place};
 ghost use Rattle.syn_tokens.specs.Faults.{out_of_memory};
+ghost use Rattle.syn_tokens.specs.declared.stream.cursor.TokenTreeRef.TheVariants as N;
+ghost use Rattle.syn_tokens.specs.declared.stream.tree.TokenTree.TheVariants as T;
 
 use crate::error::Result;
 use crate::stream::TokenStream;
-use crate::stream::cursor::{Cursor, TokenTreeRef};
+use crate::stream::cursor::{Cursor, GroupRef, TokenTreeRef};
 use crate::stream::entry::Entry;
 use crate::stream::tree::{Group, TokenTree};
 use std::alloc::{AllocError, Global};
@@ -58,20 +60,31 @@ impl<'a> Cursor<'a> {
     }
 }
 
-/// A copy of a tree.
-fn copy_next(next: &TokenTreeRef<'_>, alloc: Global) -> std::result::Result<TokenTree, AllocError>
-    ensures { IfOk result (λ copy. before copy end ≡ before_next next.now end) }
-{
-    match next {
-        TokenTreeRef::Group(inner) => Ok(TokenTree::Group(Group {
-            delimiter: inner.delimiter,
-            stream: inner.content.to_stream(alloc)?,
-            opening: inner.opening,
-            closing: inner.closing,
-        })),
-        TokenTreeRef::Ident(ident) => Ok(TokenTree::Ident(ident.to_ident()?)),
-        TokenTreeRef::Punct(punct) => Ok(TokenTree::Punct(*punct)),
-        TokenTreeRef::Literal(literal) => Ok(TokenTree::Literal(literal.to_literal()?)),
+impl<'a> TokenTreeRef<'a> {
+    /// An owned copy of the tree, with the same spans, in memory from `alloc`; fails only if memory is refused.
+    pub fn to_tree(&self, alloc: Global) -> std::result::Result<TokenTree, AllocError>
+        ensures { IfOk result (λ copy. before copy end ≡ before_next self.now end) }
+    {
+        match self {
+            TokenTreeRef::Group(group) => Ok(TokenTree::Group(group.to_group(alloc)?)),
+            TokenTreeRef::Ident(ident) => Ok(TokenTree::Ident(ident.to_ident()?)),
+            TokenTreeRef::Punct(punct) => Ok(TokenTree::Punct(*punct)),
+            TokenTreeRef::Literal(literal) => Ok(TokenTree::Literal(literal.to_literal()?)),
+        }
+    }
+}
+
+impl<'a> GroupRef<'a> {
+    /// An owned copy of the group, with the same spans, in memory from `alloc`; fails only if memory is refused.
+    pub fn to_group(&self, alloc: Global) -> std::result::Result<Group, AllocError>
+        ensures { IfOk result (λ copy. before (T.Group copy) end ≡ before_next (N.Group self.now) end) }
+    {
+        Ok(Group {
+            delimiter: self.delimiter,
+            stream: self.content.to_stream(alloc)?,
+            opening: self.opening,
+            closing: self.closing,
+        })
     }
 }
 
@@ -128,7 +141,7 @@ impl TokenStream {
         let mut rest = self.cursor();
         rest.skip(index);
         match rest.split() {
-            Some((next, _)) => Ok(Some(copy_next(&next, self.alloc())?)),
+            Some((next, _)) => Ok(Some(next.to_tree(self.alloc())?)),
             None => Ok(None),
         }
     }

@@ -6,8 +6,10 @@ use crate::error::Result;
 use crate::ident::Ident;
 use crate::lifetime::Lifetime;
 use crate::literal::Literal;
+use crate::punct::Punct;
 use crate::punctuated::Punctuated;
 use crate::stream::TokenStream;
+use crate::stream::tree::{Group, TokenTree};
 use crate::syntactic::Syntactic;
 use crate::token::{Mark, MarkKind, Word, WordKind};
 use std::alloc::Global;
@@ -44,6 +46,29 @@ impl TryClone for Lifetime {
 impl TryClone for TokenStream {
     fn try_clone(&self, alloc: Global) -> Result<TokenStream> {
         self.try_clone(alloc)
+    }
+}
+
+impl TryClone for TokenTree {
+    fn try_clone(&self, alloc: Global) -> Result<TokenTree> {
+        self.try_clone(alloc)
+    }
+}
+
+impl TryClone for Group {
+    fn try_clone(&self, alloc: Global) -> Result<Group> {
+        Ok(Group {
+            delimiter: self.delimiter,
+            stream: self.stream.try_clone(alloc)?,
+            opening: self.opening,
+            closing: self.closing,
+        })
+    }
+}
+
+impl TryClone for Punct {
+    fn try_clone(&self, _alloc: Global) -> Result<Punct> {
+        Ok(*self)
     }
 }
 
