@@ -12,6 +12,7 @@ use Rattle.syn_tokens.specs.Listing.{list_of}
 use Rattle.syn_tokens.specs.Lists.{Sequence, nothing_listed}
 use Rattle.syn_tokens.specs.declared.span.Span.{Span as TokenSpan}
 use Rattle.syn_lower.specs.Generics.{as_row, clause_aside, parameters_of, sign_of, syntax_of_GenericParam}
+use Rattle.syn_lower.specs.Splits.{listed_param, members_shown, parameters_shown, whole_member}
 use Rattle.syn_lower.specs.GenericPrints.{added_comma, after_last, comma_at, generics_part, has_others, is_lifetime, pairs_part, param_part, params_part}
 use Rattle.syn_lower.specs.declared.generics.GenericParam.TheVariants as GenericParam-m
 
@@ -107,65 +108,72 @@ sorted_shown t h = lead_tail (sort t) ∙ ap₂ (λ a b. a ⧺ b) (lead_sorted e
 abbrev Param : Type 0
 Param = GenericParam-m.the_data
 
-abbrev row : List (Param × Comma) → Option Param → Syntax
-row l o = renew (as_row (list_of syntax_of_GenericParam comma_syntax l o))
+-- of each parameter this is shown
+module _ (shown : Bool → Syntax → Syntax) where
+  abbrev row : List (Param × Comma) → Option Param → Syntax
+  row l o = renew (as_row (list_of (listed_param shown) comma_syntax l o))
 
-row_is_list : (l : List (Param × Comma)) (o : Option Param) → is_list (row l o) ≡ true
-row_is_list [] None = refl
-row_is_list [] (Some (GenericParam-m.Lifetime p)) = refl
-row_is_list [] (Some (GenericParam-m.Ty p)) = refl
-row_is_list [] (Some (GenericParam-m.Const p)) = refl
-row_is_list ((GenericParam-m.Lifetime p, c) ∷ l) o = row_is_list l o
-row_is_list ((GenericParam-m.Ty p, c) ∷ l) o = row_is_list l o
-row_is_list ((GenericParam-m.Const p, c) ∷ l) o = row_is_list l o
+  row_is_list : (l : List (Param × Comma)) (o : Option Param) → is_list (row l o) ≡ true
+  row_is_list [] None = refl
+  row_is_list [] (Some (GenericParam-m.Lifetime p)) = refl
+  row_is_list [] (Some (GenericParam-m.Ty p)) = refl
+  row_is_list [] (Some (GenericParam-m.Const p)) = refl
+  row_is_list ((GenericParam-m.Lifetime p, c) ∷ l) o = row_is_list l o
+  row_is_list ((GenericParam-m.Ty p, c) ∷ l) o = row_is_list l o
+  row_is_list ((GenericParam-m.Const p, c) ∷ l) o = row_is_list l o
 
-row_others : (l : List (Param × Comma)) (o : Option Param) → any_other (row l o) ≡ has_others l
-row_others [] None = refl
-row_others [] (Some (GenericParam-m.Lifetime p)) = refl
-row_others [] (Some (GenericParam-m.Ty p)) = refl
-row_others [] (Some (GenericParam-m.Const p)) = refl
-row_others ((GenericParam-m.Lifetime p, c) ∷ l) o = row_others l o
-row_others ((GenericParam-m.Ty p, c) ∷ l) o = refl
-row_others ((GenericParam-m.Const p, c) ∷ l) o = refl
+  row_others : (l : List (Param × Comma)) (o : Option Param) → any_other (row l o) ≡ has_others l
+  row_others [] None = refl
+  row_others [] (Some (GenericParam-m.Lifetime p)) = refl
+  row_others [] (Some (GenericParam-m.Ty p)) = refl
+  row_others [] (Some (GenericParam-m.Const p)) = refl
+  row_others ((GenericParam-m.Lifetime p, c) ∷ l) o = row_others l o
+  row_others ((GenericParam-m.Ty p, c) ∷ l) o = refl
+  row_others ((GenericParam-m.Const p, c) ∷ l) o = refl
 
--- the last parameter, in each pass
-abbrev last_part : Bool → Stream → Option Param → Stream
-last_part lifetimes following None = end
-last_part lifetimes following (Some p) = param_part lifetimes p following
+  -- the last parameter, in each pass
+  abbrev last_part : Bool → Stream → Option Param → Stream
+  last_part lifetimes following None = end
+  last_part lifetimes following (Some p) = param_part shown lifetimes p following
 
-row_firsts : (c : Stream) (l : List (Param × Comma)) (o : Option Param) → firsts c (row l o) ≡ pairs_part true l ⧺ last_part true c o
-row_firsts c [] None = refl
-row_firsts c [] (Some (GenericParam-m.Lifetime p)) = refl
-row_firsts c [] (Some (GenericParam-m.Ty p)) = refl
-row_firsts c [] (Some (GenericParam-m.Const p)) = refl
-row_firsts c ((GenericParam-m.Lifetime p, q) ∷ l) o =
-    ap (λ z. print p ⧺ punct 44 false (span_of (comma_syntax q)) z) (row_firsts c l o)
-    ∙ sym (ap (λ z. z ⧺ last_part true c o) (append_append (print p) (comma_at q) (pairs_part true l)) ∙ append_append (print p) (punct 44 false (span_of (comma_syntax q)) (pairs_part true l)) (last_part true c o))
-row_firsts c ((GenericParam-m.Ty p, q) ∷ l) o = row_firsts c l o
-row_firsts c ((GenericParam-m.Const p, q) ∷ l) o = row_firsts c l o
+  -- a parameter and its comma, before others and before what follows them
+  moved : (s : Stream) (q : Comma) (l m : Stream) → s ⧺ punct 44 false (span_of (comma_syntax q)) (l ⧺ m) ≡ ((s ⧺ comma_at q) ⧺ l) ⧺ m
+  moved s q l m =
+      sym (ap (λ z. z ⧺ m) (append_append s (comma_at q) l) ∙ append_append s (punct 44 false (span_of (comma_syntax q)) l) m)
 
-row_rest : (l : List (Param × Comma)) (o : Option Param) → others (row l o) ≡ pairs_part false l ⧺ last_part false end o
-row_rest [] None = refl
-row_rest [] (Some (GenericParam-m.Lifetime p)) = refl
-row_rest [] (Some (GenericParam-m.Ty p)) = sym (append_end (print p))
-row_rest [] (Some (GenericParam-m.Const p)) = sym (append_end (print p))
-row_rest ((GenericParam-m.Lifetime p, q) ∷ l) o = row_rest l o
-row_rest ((GenericParam-m.Ty p, q) ∷ l) o =
-    ap (λ z. print p ⧺ punct 44 false (span_of (comma_syntax q)) z) (row_rest l o)
-    ∙ sym (ap (λ z. z ⧺ last_part false end o) (append_append (print p) (comma_at q) (pairs_part false l)) ∙ append_append (print p) (punct 44 false (span_of (comma_syntax q)) (pairs_part false l)) (last_part false end o))
-row_rest ((GenericParam-m.Const p, q) ∷ l) o =
-    ap (λ z. print p ⧺ punct 44 false (span_of (comma_syntax q)) z) (row_rest l o)
-    ∙ sym (ap (λ z. z ⧺ last_part false end o) (append_append (print p) (comma_at q) (pairs_part false l)) ∙ append_append (print p) (punct 44 false (span_of (comma_syntax q)) (pairs_part false l)) (last_part false end o))
+  row_firsts : (c : Stream) (l : List (Param × Comma)) (o : Option Param) → firsts c (row l o) ≡ pairs_part shown true l ⧺ last_part true c o
+  row_firsts c [] None = refl
+  row_firsts c [] (Some (GenericParam-m.Lifetime p)) = refl
+  row_firsts c [] (Some (GenericParam-m.Ty p)) = refl
+  row_firsts c [] (Some (GenericParam-m.Const p)) = refl
+  row_firsts c ((GenericParam-m.Lifetime p, q) ∷ l) o =
+      ap (λ z. print (shown true p) ⧺ punct 44 false (span_of (comma_syntax q)) z) (row_firsts c l o)
+      ∙ moved (print (shown true p)) q (pairs_part shown true l) (last_part true c o)
+  row_firsts c ((GenericParam-m.Ty p, q) ∷ l) o = row_firsts c l o
+  row_firsts c ((GenericParam-m.Const p, q) ∷ l) o = row_firsts c l o
 
-pub row_shown : (l : List (Param × Comma)) (o : Option Param) → show (sort (row l o)) ≡ params_part l o
-row_shown l o =
-    sorted_shown (row l o) (row_is_list l o)
-    ∙ ap₂ (λ a b. a ⧺ b) (ap (λ b. firsts (pick b added_comma end) (row l o)) (row_others l o) ∙ row_firsts (after_last l) l o) (row_rest l o)
-    ∙ go o
-  where
-    go : (o : Option Param) → (pairs_part true l ⧺ last_part true (after_last l) o) ⧺ (pairs_part false l ⧺ last_part false end o) ≡ params_part l o
-    go None = ap₂ (λ a b. a ⧺ b) (append_end (pairs_part true l)) (append_end (pairs_part false l))
-    go (Some p) = append_append (pairs_part true l) (param_part true p (after_last l)) (pairs_part false l ⧺ param_part false p end)
+  row_rest : (l : List (Param × Comma)) (o : Option Param) → others (row l o) ≡ pairs_part shown false l ⧺ last_part false end o
+  row_rest [] None = refl
+  row_rest [] (Some (GenericParam-m.Lifetime p)) = refl
+  row_rest [] (Some (GenericParam-m.Ty p)) = sym (append_end (print (shown false p)))
+  row_rest [] (Some (GenericParam-m.Const p)) = sym (append_end (print (shown false p)))
+  row_rest ((GenericParam-m.Lifetime p, q) ∷ l) o = row_rest l o
+  row_rest ((GenericParam-m.Ty p, q) ∷ l) o =
+      ap (λ z. print (shown false p) ⧺ punct 44 false (span_of (comma_syntax q)) z) (row_rest l o)
+      ∙ moved (print (shown false p)) q (pairs_part shown false l) (last_part false end o)
+  row_rest ((GenericParam-m.Const p, q) ∷ l) o =
+      ap (λ z. print (shown false p) ⧺ punct 44 false (span_of (comma_syntax q)) z) (row_rest l o)
+      ∙ moved (print (shown false p)) q (pairs_part shown false l) (last_part false end o)
+
+  row_shown : (l : List (Param × Comma)) (o : Option Param) → show (sort (row l o)) ≡ params_part shown l o
+  row_shown l o =
+      sorted_shown (row l o) (row_is_list l o)
+      ∙ ap₂ (λ a b. a ⧺ b) (ap (λ b. firsts (pick b added_comma end) (row l o)) (row_others l o) ∙ row_firsts (after_last l) l o) (row_rest l o)
+      ∙ go o
+    where
+      go : (o : Option Param) → (pairs_part shown true l ⧺ last_part true (after_last l) o) ⧺ (pairs_part shown false l ⧺ last_part false end o) ≡ params_part shown l o
+      go None = ap₂ (λ a b. a ⧺ b) (append_end (pairs_part shown true l)) (append_end (pairs_part shown false l))
+      go (Some p) = append_append (pairs_part shown true l) (param_part shown true p (after_last l)) (pairs_part shown false l ⧺ param_part shown false p end)
 
 -- `<` AND `>`
 
@@ -185,22 +193,12 @@ closed None = refl
 closed (Some m) = refl
 
 -- parameters that aren't none
-shown : (a : Option Lt) (s : Syntax) (c : Option Gt) → bare s ≡ false →
+framed : (a : Option Lt) (s : Syntax) (c : Option Gt) → bare s ≡ false →
     print (Node (Vanishing false (Left (Order (sign_of (maybe lt_syntax a)) s (sign_of (maybe gt_syntax c)))))) ≡ print (maybe lt_syntax a) ⧺ (show (sort (renew s)) ⧺ print (maybe gt_syntax c))
-shown a s c h =
+framed a s c h =
     ap (λ b. show (pick b (Right Nothing) (renew (Left (Order (sign_of (maybe lt_syntax a)) s (sign_of (maybe gt_syntax c))))))) h
     ∙ opened a (show (sort (renew s)) ⧺ spell (sign_of (maybe gt_syntax c)) end)
     ∙ ap (λ z. print (maybe lt_syntax a) ⧺ (show (sort (renew s)) ⧺ z)) (closed c)
-
-member_shown : (p : Param) → bare (last (syntax_of_GenericParam p)) ≡ false
-member_shown (GenericParam-m.Lifetime p) = refl
-member_shown (GenericParam-m.Ty p) = refl
-member_shown (GenericParam-m.Const p) = refl
-
-members_shown : (p : Param) (sp : Span) (s : Syntax) → bare (more (syntax_of_GenericParam p) sp s) ≡ false
-members_shown (GenericParam-m.Lifetime p) sp s = refl
-members_shown (GenericParam-m.Ty p) sp s = refl
-members_shown (GenericParam-m.Const p) sp s = refl
 
 parameters_are : (a : Option Lt) (s : Syntax) (c : Option Gt) → parameters_of (maybe lt_syntax a) (Node (Right (Both s (Right Nothing)))) (maybe gt_syntax c) ≡ Node (Vanishing false (Left (Order (sign_of (maybe lt_syntax a)) (last s) (sign_of (maybe gt_syntax c)))))
 parameters_are (Some m) s c = refl
@@ -210,37 +208,94 @@ more_are : (a : Option Lt) (s t u : Syntax) (c : Option Gt) → parameters_of (m
 more_are (Some m) s t u c = refl
 more_are None s t u c = refl
 
+module _ (shown : Bool → Syntax → Syntax) where
+  member_shown : (p : Param) → bare (last (listed_param shown p)) ≡ false
+  member_shown (GenericParam-m.Lifetime p) = refl
+  member_shown (GenericParam-m.Ty p) = refl
+  member_shown (GenericParam-m.Const p) = refl
+
+  more_shown : (p : Param) (sp : Span) (s : Syntax) → bare (more (listed_param shown p) sp s) ≡ false
+  more_shown (GenericParam-m.Lifetime p) sp s = refl
+  more_shown (GenericParam-m.Ty p) sp s = refl
+  more_shown (GenericParam-m.Const p) sp s = refl
+
+  -- the list of what is shown
+  abbrev listed : List (Param × Comma) → Option Param → Syntax
+  listed l o = list_of (listed_param shown) comma_syntax l o
+
+  print_listed : (a : Option Lt) (l : List (Param × Comma)) (o : Option Param) (c : Option Gt) →
+      print (parameters_of (maybe lt_syntax a) (listed l o) (maybe gt_syntax c)) ≡ generics_part shown a l o c
+  print_listed None [] None None = refl
+  print_listed None [] None (Some n) = refl
+  print_listed (Some m) [] None c = refl
+  print_listed a [] (Some p) c =
+      ap print (parameters_are a (listed_param shown p) c) ∙ framed a (last (listed_param shown p)) c (member_shown p)
+      ∙ ap (λ z. print (maybe lt_syntax a) ⧺ (z ⧺ print (maybe gt_syntax c))) (row_shown shown [] (Some p))
+  print_listed a (x ∷ l) o c =
+      let s = more (listed_param shown x.0) (span_of (comma_syntax x.1)) (as_row (listed l o)) in
+      ap print (more_are a (listed_param shown x.0) (comma_syntax x.1) (listed l o) c)
+      ∙ framed a s c (more_shown x.0 (span_of (comma_syntax x.1)) (as_row (listed l o)))
+      ∙ ap (λ z. print (maybe lt_syntax a) ⧺ (z ⧺ print (maybe gt_syntax c))) (row_shown shown (x ∷ l) o)
+
+  -- a member of generics, and what is shown of it
+  last_is : (p : Param) → members_shown shown (last (syntax_of_GenericParam p)) ≡ last (listed_param shown p)
+  last_is (GenericParam-m.Lifetime p) = refl
+  last_is (GenericParam-m.Ty p) = refl
+  last_is (GenericParam-m.Const p) = refl
+
+  more_is : (p : Param) (sp : Span) (s t : Syntax) → members_shown shown s ≡ t → members_shown shown (more (syntax_of_GenericParam p) sp s) ≡ more (listed_param shown p) sp t
+  more_is (GenericParam-m.Lifetime p) sp s t e = ap (More true (shown true p) sp) e
+  more_is (GenericParam-m.Ty p) sp s t e = ap (More false (shown false p) sp) e
+  more_is (GenericParam-m.Const p) sp s t e = ap (More false (shown false p) sp) e
+
+  members_are : (l : List (Param × Comma)) (o : Option Param) → members_shown shown (as_row (list_of syntax_of_GenericParam comma_syntax l o)) ≡ as_row (listed l o)
+  members_are [] None = refl
+  members_are [] (Some p) = last_is p
+  members_are (x ∷ l) o = more_is x.0 (span_of (comma_syntax x.1)) (as_row (list_of syntax_of_GenericParam comma_syntax l o)) (as_row (listed l o)) (members_are l o)
+
+  -- what is shown of all parameters, with a where clause aside
+  module _ (clause : Syntax) where
+    shown_are : (a : Option Lt) (l : List (Param × Comma)) (o : Option Param) (c : Option Gt) →
+        parameters_shown shown (Both (parameters_of (maybe lt_syntax a) (list_of syntax_of_GenericParam comma_syntax l o) (maybe gt_syntax c)) clause) ≡ parameters_of (maybe lt_syntax a) (listed l o) (maybe gt_syntax c)
+    shown_are None [] None None = refl
+    shown_are None [] None (Some n) = refl
+    shown_are (Some m) [] None c = refl
+    shown_are a [] (Some p) c =
+        ap (λ z. parameters_shown shown (Both z clause)) (parameters_are a (syntax_of_GenericParam p) c)
+        ∙ ap (λ z. Node (Vanishing false (Left (Order (sign_of (maybe lt_syntax a)) z (sign_of (maybe gt_syntax c)))))) (last_is p)
+        ∙ sym (parameters_are a (listed_param shown p) c)
+    shown_are a (x ∷ l) o c =
+        ap (λ z. parameters_shown shown (Both z clause)) (more_are a (syntax_of_GenericParam x.0) (comma_syntax x.1) (list_of syntax_of_GenericParam comma_syntax l o) c)
+        ∙ ap (λ z. Node (Vanishing false (Left (Order (sign_of (maybe lt_syntax a)) z (sign_of (maybe gt_syntax c)))))) (members_are (x ∷ l) o)
+        ∙ sym (more_are a (listed_param shown x.0) (comma_syntax x.1) (listed l o) c)
+
+    pub print_shown : (a : Option Lt) (l : List (Param × Comma)) (o : Option Param) (c : Option Gt) →
+        print (parameters_shown shown (Both (parameters_of (maybe lt_syntax a) (list_of syntax_of_GenericParam comma_syntax l o) (maybe gt_syntax c)) clause)) ≡ generics_part shown a l o c
+    print_shown a l o c = ap print (shown_are a l o c) ∙ print_listed a l o c
+
+  -- where there are parameters, and where there are none
+  pub some_parameters : (a : Option Lt) (s : Sequence Param Comma) (c : Option Gt) → (s ≡ nothing_listed → ⊥) → generics_part shown a s.pairs s.last c ≡ print (maybe lt_syntax a) ⧺ (params_part shown s.pairs s.last ⧺ print (maybe gt_syntax c))
+  some_parameters a s c h = go s.pairs s.last h
+    where
+      go : (l : List (Param × Comma)) (o : Option Param) → (◌≡◌ {A = Sequence Param Comma} (record { pairs = l; last = o }) nothing_listed → ⊥) → generics_part shown a l o c ≡ print (maybe lt_syntax a) ⧺ (params_part shown l o ⧺ print (maybe gt_syntax c))
+      go [] None h = absurd (h refl)
+      go [] (Some p) h = refl
+      go (x ∷ l) o h = refl
+
+  pub no_parameters_shown : (a : Option Lt) (s : Sequence Param Comma) (c : Option Gt) → s ≡ nothing_listed → generics_part shown a s.pairs s.last c ≡ end
+  no_parameters_shown a s c h = ap (λ (z : Sequence Param Comma). generics_part shown a z.pairs z.last c) h
+
+  -- A PASS OVER THE PAIRS
+  pub pairs_step : (b : Bool) (l : List (Param × Comma)) (i : ℕ) (d : Param × Comma) → i < length l → pairs_part shown b (drop i l) ≡ param_part shown b (get_or l i d).0 (comma_at (get_or l i d).1) ⧺ pairs_part shown b (drop (i + 1) l)
+  pairs_step b l i d h = at_drop_more (pairs_part shown b) l i d h
+
+  pub pairs_done : (b : Bool) (l : List (Param × Comma)) (i : ℕ) → length l ≤ i → pairs_part shown b (drop i l) ≡ end
+  pairs_done b l i h = ap (pairs_part shown b) (drop_all i l h)
+
+-- all of them, whole
 pub print_parameters : (a : Option Lt) (l : List (Param × Comma)) (o : Option Param) (c : Option Gt) →
-    print (parameters_of (maybe lt_syntax a) (list_of syntax_of_GenericParam comma_syntax l o) (maybe gt_syntax c)) ≡ generics_part a l o c
-print_parameters None [] None None = refl
-print_parameters None [] None (Some n) = refl
-print_parameters (Some m) [] None c = refl
-print_parameters a [] (Some p) c =
-    ap print (parameters_are a (syntax_of_GenericParam p) c) ∙ shown a (last (syntax_of_GenericParam p)) c (member_shown p) ∙ ap (λ z. print (maybe lt_syntax a) ⧺ (z ⧺ print (maybe gt_syntax c))) (row_shown [] (Some p))
-print_parameters a (x ∷ l) o c =
-    let s = more (syntax_of_GenericParam x.0) (span_of (comma_syntax x.1)) (as_row (list_of syntax_of_GenericParam comma_syntax l o)) in
-    ap print (more_are a (syntax_of_GenericParam x.0) (comma_syntax x.1) (list_of syntax_of_GenericParam comma_syntax l o) c)
-    ∙ shown a s c (members_shown x.0 (span_of (comma_syntax x.1)) (as_row (list_of syntax_of_GenericParam comma_syntax l o)))
-    ∙ ap (λ z. print (maybe lt_syntax a) ⧺ (z ⧺ print (maybe gt_syntax c))) (row_shown (x ∷ l) o)
-
--- where there are parameters, and where there are none
-pub some_parameters : (a : Option Lt) (s : Sequence Param Comma) (c : Option Gt) → (s ≡ nothing_listed → ⊥) → generics_part a s.pairs s.last c ≡ print (maybe lt_syntax a) ⧺ (params_part s.pairs s.last ⧺ print (maybe gt_syntax c))
-some_parameters a s c h = go s.pairs s.last h
-  where
-    go : (l : List (Param × Comma)) (o : Option Param) → (◌≡◌ {A = Sequence Param Comma} (record { pairs = l; last = o }) nothing_listed → ⊥) → generics_part a l o c ≡ print (maybe lt_syntax a) ⧺ (params_part l o ⧺ print (maybe gt_syntax c))
-    go [] None h = absurd (h refl)
-    go [] (Some p) h = refl
-    go (x ∷ l) o h = refl
-
-pub no_parameters_shown : (a : Option Lt) (s : Sequence Param Comma) (c : Option Gt) → s ≡ nothing_listed → generics_part a s.pairs s.last c ≡ end
-no_parameters_shown a s c h = ap (λ (z : Sequence Param Comma). generics_part a z.pairs z.last c) h
-
--- A PASS OVER THE PAIRS
-pub pairs_step : (b : Bool) (l : List (Param × Comma)) (i : ℕ) (d : Param × Comma) → i < length l → pairs_part b (drop i l) ≡ param_part b (get_or l i d).0 (comma_at (get_or l i d).1) ⧺ pairs_part b (drop (i + 1) l)
-pairs_step b l i d h = at_drop_more (pairs_part b) l i d h
-
-pub pairs_done : (b : Bool) (l : List (Param × Comma)) (i : ℕ) → length l ≤ i → pairs_part b (drop i l) ≡ end
-pairs_done b l i h = ap (pairs_part b) (drop_all i l h)
+    print (parameters_of (maybe lt_syntax a) (list_of syntax_of_GenericParam comma_syntax l o) (maybe gt_syntax c)) ≡ generics_part whole_member a l o c
+print_parameters a l o c = print_listed whole_member a l o c
 
 pub others_step : (l : List (Param × Comma)) (i : ℕ) (d : Param × Comma) → i < length l → has_others (drop i l) ≡ or (no (is_lifetime (get_or l i d).0)) (has_others (drop (i + 1) l))
 others_step l i d h = at_drop_more has_others l i d h

@@ -7,7 +7,7 @@ use Rattle.syn_grammar.specs.Same.{same_bool}
 use Rattle.syn_tokens.specs.Kinds.{Comma, Gt, Lt, comma_syntax, gt_syntax, lt_syntax}
 use Rattle.syn_tokens.specs.Leaves.{maybe}
 use Rattle.syn_tokens.specs.Listing.{list_of}
-use Rattle.syn_lower.specs.Generics.{syntax_of_GenericParam}
+use Rattle.syn_lower.specs.Splits.{param_shown}
 use Rattle.syn_lower.specs.declared.generics.GenericParam.TheVariants as GenericParam-m
 
 -- what is before a list, and the list; nothing, where the list is empty
@@ -30,15 +30,6 @@ comma_at comma = punct 44 false (span_of (comma_syntax comma)) end
 abbrev pub added_comma : Stream
 added_comma = punct 44 false call_site end
 
--- a parameter with what follows it, where it is a lifetime (true), or where it is none
-abbrev pub param_part : Bool → GenericParam-m.the_data → Stream → Stream
-param_part lifetimes p following = pick (same_bool lifetimes (is_lifetime p)) (print (syntax_of_GenericParam p) ⧺ following) end
-
--- of parameters with their commas, the lifetimes (true), or the others
-abbrev pub pairs_part : Bool → List (GenericParam-m.the_data × Comma) → Stream
-pairs_part lifetimes [] = end
-pairs_part lifetimes (x ∷ l) = param_part lifetimes x.0 (comma_at x.1) ⧺ pairs_part lifetimes l
-
 -- some of them is no lifetime
 abbrev pub has_others : List (GenericParam-m.the_data × Comma) → Bool
 has_others [] = false
@@ -48,12 +39,23 @@ has_others (x ∷ l) = or (no (is_lifetime x.0)) (has_others l)
 abbrev pub after_last : List (GenericParam-m.the_data × Comma) → Stream
 after_last l = pick (has_others l) added_comma end
 
--- all of them
-abbrev pub params_part : List (GenericParam-m.the_data × Comma) → Option GenericParam-m.the_data → Stream
-params_part l None = pairs_part true l ⧺ pairs_part false l
-params_part l (Some p) = pairs_part true l ⧺ (param_part true p (after_last l) ⧺ (pairs_part false l ⧺ param_part false p end))
+-- of each parameter this is shown
+module _ (shown : Bool → Syntax → Syntax) where
+  -- a parameter with what follows it, where it is a lifetime (true), or where it is none
+  abbrev pub param_part : Bool → GenericParam-m.the_data → Stream → Stream
+  param_part lifetimes p following = pick (same_bool lifetimes (is_lifetime p)) (print (param_shown shown p) ⧺ following) end
 
--- `<`, parameters and `>`, where there are some
-abbrev pub generics_part : Option Lt → List (GenericParam-m.the_data × Comma) → Option GenericParam-m.the_data → Option Gt → Stream
-generics_part lt_token [] None gt_token = end
-generics_part lt_token l o gt_token = print (maybe lt_syntax lt_token) ⧺ (params_part l o ⧺ print (maybe gt_syntax gt_token))
+  -- of parameters with their commas, the lifetimes (true), or the others
+  abbrev pub pairs_part : Bool → List (GenericParam-m.the_data × Comma) → Stream
+  pairs_part lifetimes [] = end
+  pairs_part lifetimes (x ∷ l) = param_part lifetimes x.0 (comma_at x.1) ⧺ pairs_part lifetimes l
+
+  -- all of them
+  abbrev pub params_part : List (GenericParam-m.the_data × Comma) → Option GenericParam-m.the_data → Stream
+  params_part l None = pairs_part true l ⧺ pairs_part false l
+  params_part l (Some p) = pairs_part true l ⧺ (param_part true p (after_last l) ⧺ (pairs_part false l ⧺ param_part false p end))
+
+  -- `<`, parameters and `>`, where there are some
+  abbrev pub generics_part : Option Lt → List (GenericParam-m.the_data × Comma) → Option GenericParam-m.the_data → Option Gt → Stream
+  generics_part lt_token [] None gt_token = end
+  generics_part lt_token l o gt_token = print (maybe lt_syntax lt_token) ⧺ (params_part l o ⧺ print (maybe gt_syntax gt_token))

@@ -5,10 +5,12 @@ pub mod Equality
 pub mod Falls
 pub mod GenericPrints
 pub mod Generics
+pub mod LitNumbers
 pub mod Literals
 pub mod Looks
 pub mod Members
 pub mod MetaValues
+pub mod Metas
 pub mod Ordered
 pub mod OrderedPrints
 pub mod Parameters
@@ -20,6 +22,7 @@ pub mod Plain
 pub mod QualifiedPaths
 pub mod QualifiedPrints
 pub mod Sizes
+pub mod Splits
 pub mod Ties
 pub mod TypeForms
 pub mod Types

@@ -1,7 +1,8 @@
 -- THE SYNTAX OF LITERALS: `true`, `false`, or a token.
 use Rattle.syn_grammar.specs.Words.{w_true, w_false}
-use Rattle.syn_grammar.specs.Tokens.{pick, at_word}
-use Rattle.syn_grammar.specs.Grammar.{Grammar, word, any_literal, when◌then◌else◌, Syntax, Left, Right}
+use Rattle.std.specs.Prelude.{[]}
+use Rattle.syn_grammar.specs.Tokens.{Look, pick, at_word, ◌or_else◌}
+use Rattle.syn_grammar.specs.Grammar.{Grammar, word, any_literal, literal_of, when◌then◌else◌, Syntax, Left, Right}
 use Rattle.syn_grammar.specs.Forms.{plainly}
 use Rattle.syn_tokens.specs.Leaves.{syntax_of_literal, syntax_of_word}
 use Rattle.syn_tokens.specs.Literals.{LiteralValue}
@@ -15,6 +16,16 @@ lit_form =
     when at_word w_true then plainly (word w_true)
     else when at_word w_false then plainly (word w_false)
     else plainly any_literal
+
+abbrev pub at_bool : Look
+at_bool = at_word w_true or_else at_word w_false
+
+-- `true` or `false`, and no token otherwise
+abbrev pub bool_form : Grammar
+bool_form =
+    when at_word w_true then plainly (word w_true)
+    else when at_word w_false then plainly (word w_false)
+    else plainly (literal_of [])
 
 abbrev pub lit_of_token : LiteralValue → Syntax
 lit_of_token token = Right (Right (syntax_of_literal token))

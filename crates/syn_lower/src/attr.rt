@@ -9,10 +9,13 @@ ghost use Rattle.syn_lower.specs.Parsing.{parse_rule, Computes, IsSyntax};
 ghost use Rattle.syn_lower.specs.Attributes.{all_attributes_syntax, all_row, attributes_syntax, filled, none_listed, outer_part, outer_row, syntax_of_AttrStyle, syntax_of_MacroDelimiter};
 
 mod bodies;
+mod meta;
+mod nested;
 mod parsing;
 
 use crate::Path;
 pub use bodies::{print_before_body, print_inner};
+pub use nested::{MetaLogic, ParseNestedMeta};
 pub use parsing::{all_outer_attributes, inner_attributes, outer_attributes};
 use std::alloc::AllocError;
 use syn_parse::buffer::ParseBuffer;

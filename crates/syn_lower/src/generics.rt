@@ -5,12 +5,15 @@ ghost use Rattle.syn_lower.specs.Generics.{clause_of, no_parameters, where_part}
 ghost use Rattle.syn_lower.specs.Parts.{first};
 
 mod comparing;
+mod forms;
 mod parsing;
 mod printing;
+mod split;
 
 use crate::{Attribute, Type, TypeParamBound, WhereClause};
 pub use printing::print_bounds;
 pub(crate) use printing::print_with;
+pub use split::{ImplGenerics, TypeGenerics};
 use std::alloc::Global;
 use syn_recognize::deferred::DeferredConstant;
 use syn_tokens::ident::Ident;

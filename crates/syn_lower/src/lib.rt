@@ -18,9 +18,14 @@ mod prints;
 mod ty;
 pub mod where_clause;
 
-pub use attr::{AttrStyle, Attribute, MacroDelimiter, Meta, MetaList, MetaNameValue};
+pub use attr::{
+    AttrStyle, Attribute, MacroDelimiter, Meta, MetaList, MetaLogic, MetaNameValue,
+    ParseNestedMeta,
+};
 pub use bounds::{BoundLifetimes, TraitBound, TraitBoundModifier, TypeParamBound};
-pub use generics::{ConstParam, GenericParam, Generics, LifetimeParam, TypeParam};
+pub use generics::{
+    ConstParam, GenericParam, Generics, ImplGenerics, LifetimeParam, TypeGenerics, TypeParam,
+};
 pub use lit::{
     Lit, LitBool, LitByte, LitByteStr, LitCStr, LitChar, LitFloat, LitInt, LitStr, LitToken,
     LiteralKind,

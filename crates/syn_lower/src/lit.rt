@@ -2,6 +2,7 @@
 ghost use Rattle.std.specs.Prelude.{◌≡◌, [], IfOk, IfErr, MatchResult, codes, refl};
 ghost use Rattle.std.specs.Cmp.{on_equiv, on_per};
 ghost use Rattle.syn_grammar.specs.Table.{at_lit};
+ghost use Rattle.syn_grammar.specs.Words.{Text};
 ghost use Rattle.syn_grammar.specs.Tokens.{same_text};
 ghost use Rattle.syn_tokens.specs.Equal.{same_text_equiv, same_text_per};
 ghost use Rattle.syn_tokens.specs.Leaves.{syntax_of_literal};
@@ -28,6 +29,8 @@ use syn_tokens::syntactic::try_clone::TryClone;
 use syn_tokens::token::{False, True};
 
 pub mod kind;
+mod parsing;
+mod value;
 
 /// A literal, by what it is.
 #[derive(Drop)]
@@ -82,9 +85,16 @@ pub struct LitBool {
 pub trait LiteralKind {
     ghost kind: { KindOfLiteral };
 
+    /// The error message if it is missing.
+    ghost fault: { Text };
+
     /// The kind of a token.
     fn kind() -> LitKind
         ensures { result ≡ kind };
+
+    /// The text of that message, such as `expected string literal`.
+    fn expected() -> &'static str
+        ensures { result.now ≡ fault };
 }
 
 /// A literal token of one kind. Two are equal where their texts are, spans aside.

@@ -7,6 +7,7 @@ ghost use Rattle.syn_tokens.specs.Faults.{IsSyntaxError};
 use crate::buffer::ParseBuffer;
 use crate::read::Read;
 use syn_tokens::error::Result;
+use syn_tokens::span::Span;
 use syn_tokens::stream::TokenStream;
 use syn_tokens::syntactic::Syntactic;
 
@@ -58,6 +59,16 @@ pub fn parse_whole<T: Parse + Drop>(tokens: &TokenStream) -> Result<T>
     ensures { WholeOutcome IsSyntaxError T.syntax T.form tokens.now result }
 {
     let mut input = ParseBuffer::new(tokens);
+    let value = T::parse(&mut input)?;
+    input.finish()?;
+    Ok(value)
+}
+
+/// The same of the content of a group, whose closing delimiter has this span: that is the place of a fault at the end.
+pub fn parse_content<T: Parse + Drop>(content: &TokenStream, closing: Span) -> Result<T>
+    ensures { WholeOutcome IsSyntaxError T.syntax T.form content.now result }
+{
+    let mut input = ParseBuffer::within(content, closing);
     let value = T::parse(&mut input)?;
     input.finish()?;
     Ok(value)

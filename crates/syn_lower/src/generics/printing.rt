@@ -5,18 +5,19 @@ ghost use Rattle.syn_grammar.specs.Grammar.{print};
 ghost use Rattle.syn_tokens.specs.Building.{added};
 ghost use Rattle.syn_tokens.specs.Kinds.{colon_syntax, plus_syntax};
 ghost use Rattle.syn_tokens.specs.Leaves.{maybe};
-ghost use Rattle.syn_lower.specs.GenericPrints.{after_last, comma_at, has_others, is_lifetime, pairs_part, param_part, params_part, printed_with};
+ghost use Rattle.syn_lower.specs.GenericPrints.{after_last, comma_at, generics_part, has_others, is_lifetime, pairs_part, param_part, params_part, printed_with};
 ghost use Rattle.syn_lower.specs.Generics.{clause_of};
 ghost use Rattle.syn_lower.specs.Parts.{first, or_added};
 
 use crate::attr::print_outer;
+use crate::generics::forms::{ParamForm, Whole};
 use crate::{ConstParam, GenericParam, Generics, LifetimeParam, TypeParam};
 use std::alloc::AllocError;
 use syn_tokens::print::{Print, print_list};
 use syn_tokens::punctuated::Punctuated;
 use syn_tokens::span::Span;
 use syn_tokens::stream::builder::StreamBuilder;
-use syn_tokens::token::{Colon, Comma, Plus};
+use syn_tokens::token::{Colon, Comma, Gt, Lt, Plus};
 
 /// What is before a list, and the list, where it has a member.
 #[tactic(auto, using(syn_tokens::proofs::Prints::prints, crate::proofs::GenericPrints::none_printed, crate::proofs::GenericPrints::some_printed))]
@@ -105,18 +106,13 @@ impl Print for Generics {
 
 impl Generics {
     /// Parameters in `< >`, lifetimes first. Without parameters nothing is printed.
-    #[tactic(auto, using(syn_tokens::proofs::Prints::prints, crate::proofs::Ordering::print_parameters, crate::proofs::Ordering::print_aside, crate::proofs::Ordering::some_parameters, crate::proofs::Ordering::no_parameters_shown))]
+    #[tactic(auto, using(crate::proofs::Ordering::print_parameters, crate::proofs::Ordering::print_aside))]
     pub fn print_params(&self, out: &mut StreamBuilder) -> Result<(), AllocError>
         ensures prints { OnOk result (out.new ≡ added out.old (print (first self.now))) }
         ensures alone { OnOk result (out.new ≡ added out.old (print self.now)) }
         ensures begins { out.new.before ≡ out.old.before }
     {
-        if self.params.is_empty() {
-            return Ok(());
-        }
-        self.lt_token.print_in(out)?;
-        print_ordered(&self.params, out)?;
-        self.gt_token.print_in(out)
+        print_listed::<Whole>(&self.lt_token, &self.params, &self.gt_token, out)
     }
 
     /// The where clause, if there is one.
@@ -132,62 +128,81 @@ impl Generics {
     }
 }
 
+/// Of each of these parameters one part, in `< >`, lifetimes first. Without parameters nothing is printed.
+#[tactic(auto, using(syn_tokens::proofs::Prints::prints, crate::proofs::Ordering::some_parameters, crate::proofs::Ordering::no_parameters_shown))]
+pub(super) fn print_listed<F: ParamForm>(
+    lt_token: &Option<Lt>,
+    params: &Punctuated<GenericParam, Comma>,
+    gt_token: &Option<Gt>,
+    out: &mut StreamBuilder,
+) -> Result<(), AllocError>
+    ensures prints { OnOk result (out.new ≡ added out.old (generics_part F.shown lt_token.now params.now.pairs params.now.last gt_token.now)) }
+    ensures begins { out.new.before ≡ out.old.before }
+{
+    if params.is_empty() {
+        return Ok(());
+    }
+    lt_token.print_in(out)?;
+    print_ordered::<F>(params, out)?;
+    gt_token.print_in(out)
+}
+
 /// Lifetimes, each with its comma, and then the others with theirs. After a lifetime that is last a comma is added where
 /// others follow.
 #[tactic(auto, using(syn_tokens::proofs::Prints::prints))]
-fn print_ordered(
+fn print_ordered<F: ParamForm>(
     params: &Punctuated<GenericParam, Comma>,
     out: &mut StreamBuilder,
 ) -> Result<(), AllocError>
-    ensures prints { OnOk result (out.new ≡ added out.old (params_part params.now.pairs params.now.last)) }
+    ensures prints { OnOk result (out.new ≡ added out.old (params_part F.shown params.now.pairs params.now.last)) }
     ensures begins { out.new.before ≡ out.old.before }
 {
-    print_pairs(params.pairs(), true, out)?;
+    print_pairs::<F>(params.pairs(), true, out)?;
     match params.trailing_value() {
-        None => print_pairs(params.pairs(), false, out),
+        None => print_pairs::<F>(params.pairs(), false, out),
         Some(last) if last.is_lifetime() => {
-            last.print_in(out)?;
+            F::print_param(last, out)?;
             print_comma_before_others(params.pairs(), out)?;
-            print_pairs(params.pairs(), false, out)
+            print_pairs::<F>(params.pairs(), false, out)
         }
         Some(last) => {
-            print_pairs(params.pairs(), false, out)?;
-            last.print_in(out)
+            print_pairs::<F>(params.pairs(), false, out)?;
+            F::print_param(last, out)
         }
     }
 }
 
 /// Of these parameters the lifetimes, or the others, each with its comma.
 #[tactic(auto, using(syn_tokens::proofs::Prints::prints, crate::proofs::Ordering::pairs_step, crate::proofs::Ordering::pairs_done))]
-fn print_pairs(
+fn print_pairs<F: ParamForm>(
     pairs: &[(GenericParam, Comma)],
     lifetimes: bool,
     out: &mut StreamBuilder,
 ) -> Result<(), AllocError>
-    ensures prints { OnOk result (out.new ≡ added out.old (pairs_part lifetimes pairs.now)) }
+    ensures prints { OnOk result (out.new ≡ added out.old (pairs_part F.shown lifetimes pairs.now)) }
     ensures begins { out.new.before ≡ out.old.before }
 {
     for (param, comma) in pairs {
-        print_pair(param, comma, lifetimes, out)?;
+        print_pair::<F>(param, comma, lifetimes, out)?;
     }
     Ok(())
 }
 
 /// A parameter and its comma, where it is a lifetime or where it is none.
 #[tactic(auto, using(syn_tokens::proofs::Prints::prints))]
-fn print_pair(
+fn print_pair<F: ParamForm>(
     param: &GenericParam,
     comma: &Comma,
     lifetimes: bool,
     out: &mut StreamBuilder,
 ) -> Result<(), AllocError>
-    ensures prints { OnOk result (out.new ≡ added out.old (param_part lifetimes param.now (comma_at comma.now))) }
+    ensures prints { OnOk result (out.new ≡ added out.old (param_part F.shown lifetimes param.now (comma_at comma.now))) }
     ensures begins { out.new.before ≡ out.old.before }
 {
     if param.is_lifetime() != lifetimes {
         return Ok(());
     }
-    param.print_in(out)?;
+    F::print_param(param, out)?;
     print_comma(*comma, out)
 }
 
