@@ -1,8 +1,11 @@
 //! Identifiers, literals, marks' characters and spans.
 use std::alloc::Global;
+use std::fmt;
+use syn_tokens::error::Error;
 use syn_tokens::ident::Ident;
 use syn_tokens::ident::identifier::is_identifier;
 use syn_tokens::ident::keyword::is_keyword;
+use syn_tokens::lifetime::Lifetime;
 use syn_tokens::literal::{LitKind, Literal};
 use syn_tokens::punct::{Punct, Spacing};
 use syn_tokens::span::Span;
@@ -82,6 +85,36 @@ fn words(rt: HostRuntime) {
     assert!(rt; matches!(&raw, Ok(raw) if raw.text() == "r#struct" && !raw.is_keyword()));
     let none = Ident::new(rt.alloc(), "1a", SPAN);
     assert!(rt; matches!(&none, Err(error) if error.span() == SPAN));
+}
+
+/// Whether a value is displayed as this text.
+fn is_displayed<T: fmt::Display>(alloc: Global, value: &T, want: &str) -> bool {
+    matches!(format!(in alloc; "{value}"), Ok(text) if text.as_str() == want)
+}
+
+#[test]
+fn displayed(rt: HostRuntime) {
+    let alloc = rt.alloc();
+    let name = Ident::new(alloc, "r#struct", SPAN).expect(&rt, "an identifier");
+    assert!(rt; is_displayed(alloc, &name, "r#struct"));
+    let literal = Literal::new(alloc, LitKind::Int, "1u8", SPAN).expect(&rt, "a literal");
+    assert!(rt; is_displayed(alloc, &literal, "1u8"));
+    let ident = Ident::new(alloc, "a", SPAN).expect(&rt, "an identifier");
+    let lifetime = Lifetime {
+        apostrophe: SPAN,
+        ident,
+    };
+    assert!(rt; is_displayed(alloc, &lifetime, "'a"));
+    let error = Error::new(SPAN, "expected `a`");
+    assert!(rt; is_displayed(alloc, &error, "expected `a`"));
+}
+
+#[test]
+fn without_raw(rt: HostRuntime) {
+    for (text, want) in [("r#struct", "struct"), ("a", "a"), ("r", "r"), ("_", "_")] {
+        let name = Ident::new(rt.alloc(), text, SPAN).expect(&rt, "an identifier");
+        assert_eq!(rt; name.unraw(), want);
+    }
 }
 
 /// Whether it is the literal of this kind and text, there.

@@ -131,3 +131,60 @@ fn used_up(rt: HostRuntime) {
     assert!(rt; is_used_from_back(numbers(rt.alloc(), false).expect(&rt, "a list")));
     assert!(rt; is_used_from_back(numbers(rt.alloc(), true).expect(&rt, "a list")));
 }
+
+/// Whether these are all values, by their numbers.
+fn are_at(list: &Numbers, values: &[u32]) -> bool {
+    for (index, value) in values.iter().enumerate() {
+        if list.get(index) != Some(value) {
+            return false;
+        }
+    }
+    list.get(values.len()).is_none()
+}
+
+#[test]
+fn by_number(rt: HostRuntime) {
+    let open = numbers(rt.alloc(), false).expect(&rt, "a list");
+    assert!(rt; are_at(&open, &[1, 2, 3]));
+    assert!(rt; open.len() == 3);
+    assert!(rt; open[0] == 1 && open[2] == 3);
+    let closed = numbers(rt.alloc(), true).expect(&rt, "a list");
+    assert!(rt; are_at(&closed, &[1, 2, 3]));
+    let empty: Numbers = Punctuated::new(rt.alloc());
+    assert!(rt; are_at(&empty, &[]));
+}
+
+/// A separator that is made is the default character.
+const MADE: char = '\0';
+
+/// Pushes values to a list, with separators as they are needed.
+fn pushed(alloc: Global, is_closed: bool) -> Result<Numbers, AllocError> {
+    let mut list = numbers(alloc, is_closed)?;
+    list.push(4)?;
+    list.push(5)?;
+    Ok(list)
+}
+
+#[test]
+fn pushes(rt: HostRuntime) {
+    let open = pushed(rt.alloc(), false).expect(&rt, "a list");
+    assert!(rt; are_at(&open, &[1, 2, 3, 4, 5]));
+    assert!(rt; open.pairs() == [(1, ','), (2, ','), (3, MADE), (4, MADE)].as_slice());
+    let closed = pushed(rt.alloc(), true).expect(&rt, "a list");
+    assert!(rt; are_at(&closed, &[1, 2, 3, 4, 5]));
+    assert!(rt; closed.pairs() == [(1, ','), (2, ','), (3, ';'), (4, MADE)].as_slice());
+}
+
+/// A list with the values of an iterator added.
+fn extended(alloc: Global) -> Result<Numbers, AllocError> {
+    let mut list = numbers(alloc, false)?;
+    list.extend(4..7)?;
+    Ok(list)
+}
+
+#[test]
+fn extensions(rt: HostRuntime) {
+    let list = extended(rt.alloc()).expect(&rt, "a list");
+    assert!(rt; are_at(&list, &[1, 2, 3, 4, 5, 6]));
+    assert!(rt; !list.trailing_punct());
+}

@@ -52,6 +52,20 @@ fn values(rt: HostRuntime) {
     assert_reprinted::<Box<Ident>>(&rt, alloc, "a", "x@0..1 a@0..1");
 }
 
+/// A reference prints what it refers to, and so does one in an option.
+#[test]
+fn references(rt: HostRuntime) {
+    let alloc = rt.alloc();
+    let name: Ident = parse2(stream(&rt, alloc, "a")).expect(&rt, "a name");
+    let out = print_after(alloc, &&name).expect(&rt, "a print");
+    assert_shown(&rt, &out, "x@0..1 a@0..1");
+    let out = print_after(alloc, &Some(&name)).expect(&rt, "a print");
+    assert_shown(&rt, &out, "x@0..1 a@0..1");
+    let absent: Option<&Ident> = None;
+    let out = print_after(alloc, &absent).expect(&rt, "a print");
+    assert_shown(&rt, &out, "x@0..1");
+}
+
 #[test]
 fn streams(rt: HostRuntime) {
     let stream = stream(&rt, rt.alloc(), "a ( b )");
