@@ -1,8 +1,11 @@
+mod attributes;
 mod deep;
 mod files;
 mod foreign;
 mod functions;
+mod generics;
 mod impls;
+mod literals;
 mod opened;
 mod parsed;
 mod signatures;
