@@ -7,11 +7,13 @@ pub mod Entries
 pub mod Faults
 pub mod Firsts
 pub mod Keywords
+pub mod LiteralParts
 pub mod Marks
 pub mod Names
 pub mod Places
 pub mod Prints
 pub mod Rows
 pub mod SameEntries
+pub mod Scans
 pub mod Streams
 pub mod Walks
