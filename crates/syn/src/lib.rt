@@ -7,12 +7,13 @@ mod lawful;
 
 pub use syn_lower::{
     AngleBracketedGenericArguments, AssocType, AttrStyle, Attribute, BoundLifetimes, ConstParam,
-    GenericArgument, GenericParam, Generics, Index, LifetimeParam, Lit, LitBool, LitByte,
-    LitByteStr, LitCStr, LitChar, LitFloat, LitInt, LitStr, LitToken, LiteralKind, MacroDelimiter,
-    Member, Meta, MetaList, MetaNameValue, ParenthesizedGenericArguments, Path, PathArguments,
-    PathSegment, PredicateLifetime, PredicateType, QSelf, ReturnType, TraitBound,
-    TraitBoundModifier, Type, TypeArray, TypeGroup, TypeNever, TypeParam, TypeParamBound,
-    TypeParen, TypePath, TypePtr, TypeReference, TypeSlice, TypeTuple, WhereClause, WherePredicate,
+    GenericArgument, GenericParam, Generics, ImplGenerics, Index, LifetimeParam, Lit, LitBool,
+    LitByte, LitByteStr, LitCStr, LitChar, LitFloat, LitInt, LitStr, LitToken, LiteralKind,
+    MacroDelimiter, Member, Meta, MetaList, MetaNameValue, ParenthesizedGenericArguments, Path,
+    PathArguments, PathSegment, PredicateLifetime, PredicateType, QSelf, ReturnType, TraitBound,
+    TraitBoundModifier, Type, TypeArray, TypeGenerics, TypeGroup, TypeNever, TypeParam,
+    TypeParamBound, TypeParen, TypePath, TypePtr, TypeReference, TypeSlice, TypeTuple, WhereClause,
+    WherePredicate,
 };
 pub use syn_reader::reader;
 pub use syn_tokens::error::{Error, Fault, Result};
@@ -50,13 +51,18 @@ pub mod punctuated {
     pub use syn_tokens::punctuated::iterators::{IntoIter, Iter, IterMut};
 }
 
+/// Metas in the arguments of an attribute.
+pub mod meta {
+    pub use syn_lower::{MetaLogic, ParseNestedMeta};
+}
+
 /// What the trees of items are made of: attributes, paths, types, generics and literals.
 pub mod lower {
     pub use syn_item::sig::Abi;
     pub use syn_lower::{
         AngleBracketedGenericArguments, AssocType, AttrStyle, Attribute, BoundLifetimes,
-        ConstParam, GenericArgument, GenericParam, Generics, Index, LifetimeParam, Lit, LitBool,
-        LitByte, LitByteStr, LitCStr, LitChar, LitFloat, LitInt, LitStr, LitToken, LiteralKind,
+        ConstParam, GenericArgument, GenericParam, Generics, ImplGenerics, Index, LifetimeParam, Lit,
+        LitBool, LitByte, LitByteStr, LitCStr, LitChar, LitFloat, LitInt, LitStr, LitToken, LiteralKind,
         MacroDelimiter, Member, Meta, MetaList, MetaNameValue, ParenthesizedGenericArguments, Path,
         PathArguments, PathSegment, PredicateLifetime, PredicateType, QSelf, ReturnType,
         TraitBound, TraitBoundModifier, Type, TypeArray, TypeGroup, TypeNever, TypeParam,

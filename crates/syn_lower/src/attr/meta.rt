@@ -6,7 +6,6 @@ ghost use Rattle.syn_tokens.specs.Spans.{at};
 ghost use Rattle.syn_parse.specs.Form.{WholeOutcome};
 ghost use Rattle.syn_parse.specs.Nexts.{IsNext};
 ghost use Rattle.syn_lower.specs.Metas.{ArgsOutcome, IsFault, IsList, IsNameValue, IsPath, closing_of, is_ident, opening_of, path_ident, path_of};
-ghost use Rattle.syn_lower.specs.declared.attr.Meta.TheVariants as Meta;
 
 use crate::{Attribute, MacroDelimiter, Meta, MetaList, MetaNameValue, Path, PathArguments};
 use syn_parse::parse::{Parse, parse_content, parse_whole};

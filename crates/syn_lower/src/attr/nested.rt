@@ -1,11 +1,10 @@
 //! Metas in the arguments of an attribute, one after another.
-ghost use Rattle.std.specs.Prelude.{◌≡◌, IfErr, IfOk, OnOk, codes};
+ghost use Rattle.std.specs.Prelude.{◌≡◌, IfOk, IsOk, OnOk, Some};
+ghost use Rattle.syn_grammar.specs.Words.{equals};
+ghost use Rattle.syn_grammar.specs.Tokens.{end};
 ghost use Rattle.syn_grammar.specs.Grammar.{Syntax};
-ghost use Rattle.syn_grammar.specs.Promises.{Moved};
-ghost use Rattle.syn_grammar.specs.Tokens.{Stream};
-ghost use Rattle.syn_grammar.specs.Grammar.{print};
-ghost use Rattle.syn_parse.specs.Nexts.{IsNext};
-ghost use Rattle.syn_lower.specs.Metas.{IsFault};
+ghost use Rattle.syn_grammar.specs.Take.{take_mark};
+ghost use Rattle.syn_lower.specs.Metas.{IsFault, IsList};
 
 use crate::{Attribute, MetaList, Path, PathArguments, PathSegment};
 use syn_parse::buffer::ParseBuffer;
@@ -34,7 +33,9 @@ pub trait MetaLogic {
 impl<'b> ParseNestedMeta<'b> {
     /// Parses `=`, and lends the buffer at the value. Fails with ``expected `=` `` if no `=` follows the path; then nothing is
     /// consumed.
-    pub fn value(&mut self) -> Result<&mut ParseBuffer<'b>> {
+    pub fn value(&mut self) -> Result<&mut ParseBuffer<'b>>
+        ensures { IfOk result (λ buffer. (sign : Syntax) × (take_mark equals self.old.input ≡ Some (sign, buffer.now))) }
+    {
         let _equals: Eq = self.input.parse()?;
         Ok(&mut self.input)
     }
@@ -80,13 +81,16 @@ impl MetaList {
         logic: F,
     ) -> Result<()>
         requires { F.IsAlwaysCallable logic }
+        ensures { self.now.tokens ≡ end → IsOk result }
     {
         let content = ParseBuffer::within(&self.tokens, self.delimiter.closing());
         call_for_each(content, logic)
     }
 
     /// The same by a value that handles each meta.
-    pub fn parse_nested_meta_with<L: MetaLogic>(&self, logic: &mut L) -> Result<()> {
+    pub fn parse_nested_meta_with<L: MetaLogic>(&self, logic: &mut L) -> Result<()>
+        ensures { self.now.tokens ≡ end → IsOk result }
+    {
         let content = ParseBuffer::within(&self.tokens, self.delimiter.closing());
         handle_each(content, logic)
     }
@@ -103,12 +107,15 @@ impl Attribute {
         logic: F,
     ) -> Result<()>
         requires { F.IsAlwaysCallable logic }
+        ensures { OnOk result (IsList self.now.meta) }
     {
         self.meta.require_list()?.parse_nested_meta(logic)
     }
 
     /// The same by a value that handles each meta.
-    pub fn parse_nested_meta_with<L: MetaLogic>(&self, logic: &mut L) -> Result<()> {
+    pub fn parse_nested_meta_with<L: MetaLogic>(&self, logic: &mut L) -> Result<()>
+        ensures { OnOk result (IsList self.now.meta) }
+    {
         self.meta.require_list()?.parse_nested_meta_with(logic)
     }
 }
@@ -119,6 +126,7 @@ fn call_for_each<R: Answer<Error, Node = ()>, F: FnMut(&mut ParseNestedMeta<'_>)
     mut logic: F,
 ) -> Result<()>
     requires { F.IsAlwaysCallable logic }
+    ensures { input.entry ≡ end → IsOk result }
 {
     // each meta has a token: a function that moves the buffer back isn't called without end
     for _ in 0..input.cursor().len() {
@@ -134,7 +142,9 @@ fn call_for_each<R: Answer<Error, Node = ()>, F: FnMut(&mut ParseNestedMeta<'_>)
 }
 
 /// Handles each meta up to the end.
-fn handle_each<L: MetaLogic>(mut input: ParseBuffer<'_>, logic: &mut L) -> Result<()> {
+fn handle_each<L: MetaLogic>(mut input: ParseBuffer<'_>, logic: &mut L) -> Result<()>
+    ensures { input.entry ≡ end → IsOk result }
+{
     // as above
     for _ in 0..input.cursor().len() {
         if input.is_empty() {

@@ -3,7 +3,6 @@ ghost use Rattle.std.specs.Prelude.{◌≡◌, ◌++◌, Some, IfErr, IfOk, code
 ghost use Rattle.std.specs.Str.{chars};
 ghost use Rattle.syn_tokens.specs.Faults.{out_of_memory};
 ghost use Rattle.syn_tokens.specs.Numbers.{int_value};
-ghost use Rattle.syn_tokens.specs.declared.literal.LitKind.TheVariants as LitKind;
 
 use crate::error::Result;
 use crate::literal::{LitKind, Literal};

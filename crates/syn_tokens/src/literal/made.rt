@@ -5,7 +5,6 @@ ghost use Rattle.std.specs.Str.{chars};
 ghost use Rattle.syn_tokens.specs.Faults.{out_of_memory};
 ghost use Rattle.syn_tokens.specs.LiteralTexts.{escaped, escaped_byte, quoted_byte, quoted_bytes, quoted_character, quoted_text};
 ghost use Rattle.syn_tokens.specs.LiteralValues.{byte_str_value, byte_value, c_str_value, char_value, str_value};
-ghost use Rattle.syn_tokens.specs.declared.literal.LitKind.TheVariants as LitKind;
 
 use crate::error::Result;
 use crate::literal::{LitKind, Literal};

@@ -8,8 +8,6 @@ ghost use Rattle.syn_tokens.specs.Trees.{stream_of, before};
 ghost use Rattle.syn_tokens.specs.Cursors.{before_next};
 ghost use Rattle.syn_tokens.specs.Places.{place};
 ghost use Rattle.syn_tokens.specs.Faults.{out_of_memory};
-ghost use Rattle.syn_tokens.specs.declared.stream.cursor.TokenTreeRef.TheVariants as N;
-ghost use Rattle.syn_tokens.specs.declared.stream.tree.TokenTree.TheVariants as T;
 
 use crate::error::Result;
 use crate::stream::TokenStream;
@@ -77,7 +75,7 @@ impl<'a> TokenTreeRef<'a> {
 impl<'a> GroupRef<'a> {
     /// An owned copy of the group, with the same spans, in memory from `alloc`; fails only if memory is refused.
     pub fn to_group(&self, alloc: Global) -> std::result::Result<Group, AllocError>
-        ensures { IfOk result (λ copy. before (T.Group copy) end ≡ before_next (N.Group self.now) end) }
+        ensures { IfOk result (λ copy. before (TokenTree.Group copy) end ≡ before_next (TokenTreeRef.Group self.now) end) }
     {
         Ok(Group {
             delimiter: self.delimiter,
