@@ -8,6 +8,9 @@ pub mod Faults
 pub mod Firsts
 pub mod Keywords
 pub mod LiteralParts
+pub mod MadeBytes
+pub mod MadeNumbers
+pub mod MadeTexts
 pub mod Marks
 pub mod Names
 pub mod Places

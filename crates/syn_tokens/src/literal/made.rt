@@ -93,6 +93,7 @@ fn made(alloc: Global, kind: LitKind, text: &String) -> Result<Literal>
 impl Literal {
     /// The string literal of a text, as `"a"`, with the span 0 to 0. `"`, `\`, line feeds, carriage returns, tabs and zeros are
     /// escaped. Fails only if memory is refused.
+    #[tactic(auto, using(crate::proofs::MadeTexts::text_represented))]
     pub fn string(alloc: Global, text: &str) -> Result<Literal>
         ensures ok { IfOk result (λ l. l ≡ record { kind = LitKind.Str; text = quoted_text (chars text.now); span = record { start = 0; end = 0 } }) }
         ensures value { IfOk result (λ l. str_value (chars l.text) ≡ Some text.now) }
@@ -109,6 +110,7 @@ impl Literal {
 
     /// The character literal of a character, as `'a'`, with the span 0 to 0. `'`, `\`, line feeds, carriage returns, tabs and
     /// zeros are escaped. Fails only if memory is refused.
+    #[tactic(auto, using(crate::proofs::MadeTexts::character_represented))]
     pub fn character(alloc: Global, character: char) -> Result<Literal>
         ensures ok { IfOk result (λ l. l ≡ record { kind = LitKind.Char; text = quoted_character character; span = record { start = 0; end = 0 } }) }
         ensures value { IfOk result (λ l. char_value (chars l.text) ≡ Some character) }
@@ -123,6 +125,7 @@ impl Literal {
 
     /// The byte string literal of these bytes, as `b"a"`, with the span 0 to 0. What is no printable ASCII is escaped. Fails
     /// only if memory is refused.
+    #[tactic(auto, using(crate::proofs::MadeBytes::byte_string_represented, crate::proofs::MadeBytes::all_fine_bytes))]
     pub fn byte_string(alloc: Global, bytes: &[u8]) -> Result<Literal>
         ensures ok { IfOk result (λ l. l ≡ record { kind = LitKind.ByteStr; text = 98 ∷ quoted_bytes bytes.now; span = record { start = 0; end = 0 } }) }
         ensures value { IfOk result (λ l. byte_str_value (chars l.text) ≡ Some bytes.now) }
@@ -136,6 +139,7 @@ impl Literal {
 
     /// The byte literal of a byte, as `b'a'`, with the span 0 to 0. What is no printable ASCII is escaped. Fails only if memory
     /// is refused.
+    #[tactic(auto, using(crate::proofs::MadeBytes::byte_represented))]
     pub fn byte_character(alloc: Global, byte: u8) -> Result<Literal>
         ensures ok { IfOk result (λ l. l ≡ record { kind = LitKind.Byte; text = 98 ∷ quoted_byte byte; span = record { start = 0; end = 0 } }) }
         ensures value { IfOk result (λ l. byte_value (chars l.text) ≡ Some byte) }
@@ -151,6 +155,7 @@ impl Literal {
 
     /// The C string literal of these bytes, as `c"a"`, with the span 0 to 0. None of them is zero: that is at the end of the
     /// string, and not written. What is no printable ASCII is escaped. Fails only if memory is refused.
+    #[tactic(auto, using(crate::proofs::MadeBytes::c_string_represented, crate::proofs::MadeBytes::all_fine_c_bytes))]
     pub fn c_string(alloc: Global, bytes: &[u8]) -> Result<Literal>
         requires { All (λ b. b ≢ 0) bytes.now }
         ensures ok { IfOk result (λ l. l ≡ record { kind = LitKind.CStr; text = 99 ∷ quoted_bytes bytes.now; span = record { start = 0; end = 0 } }) }
