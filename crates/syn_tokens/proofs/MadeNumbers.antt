@@ -1,6 +1,6 @@
 -- Integer literals that are made of numbers represent these numbers.
-use Rattle.std.proofs.Common.{◌≡◌, ◌<◌, ◌≤◌, ◌+◌, ◌-◌, ◌*◌, ◌/◌, ◌%◌, ◌^◌, ℕ, zero, suc, Bool, true, false, ◌&&◌, List, [], ◌∷◌, ◌++◌, Option, Some, None, refl, ap, sym, ◌∙◌, subst, arith}
-use Rattle.std.specs.Prelude.{◌==◌, ◌||◌, not, nat_lt, nat_le, decimal, if◌then◌else◌}
+use Rattle.std.proofs.Common.{◌≡◌, ◌<◌, ◌≤◌, ◌+◌, ◌-◌, ◌*◌, ◌/◌, ◌%◌, ◌^◌, ℕ, zero, suc, Bool, true, false, ◌&&◌, List, [], ◌∷◌, ◌++◌, Option, Some, None, refl, ap, sym, ◌∙◌, subst, append-nil, arith}
+use Rattle.std.specs.Prelude.{◌==◌, ◌||◌, not, nat_lt, nat_le, codes, decimal, if◌then◌else◌}
 use Rattle.std.specs.Char.{digit_value, is_ascii_digit}
 use Rattle.std.specs.Str.{IsAscii, chars}
 use Rattle.std.proofs.lemmas.Bool.{cond-true, cond-false, ne_eqb, and_right, and_from, or_right, le-leb, le-ltb, lt-ltb}
@@ -116,17 +116,39 @@ written_value n ds s w h = go w.some.0 w.some.1 w.some.2
         ∙ ap (number_from 10 0) (sym e) ∙ w.value
 
 -- A NUMBER WITH A SUFFIX REPRESENTS ITSELF
-pub number_represented : (n : ℕ) (s : List ℕ) → n < 10 ^ 64 → IsSuffix s → int_value (chars (decimal n ++ s)) ≡ Some n
+number_represented : (n : ℕ) (s : List ℕ) → n < 10 ^ 64 → IsSuffix s → int_value (chars (decimal n ++ s)) ≡ Some n
 number_represented n s h k =
     ap int_value (chars-IsAscii (decimal n ++ s) (IsAscii-append (decimal n) s (IsAscii-decimal_wide n h) k.ascii)) ∙ written_value n (decimal n) s (decimal_writes n h) k
 
-pub no_suffix : IsSuffix []
+no_suffix : IsSuffix []
 no_suffix = record { ascii = IsAscii-nil; ends = refl; no_base = λ c rest e. absurd (cc e) }
 
 -- a suffix that begins with `u`
-pub unsigned_suffix : (s : List ℕ) → IsAscii s → IsSuffix (117 ∷ s)
+unsigned_suffix : (s : List ℕ) → IsAscii s → IsSuffix (117 ∷ s)
 unsigned_suffix s a = record {
   ascii = IsAscii-cons 117 s (omega arith) a;
   ends = refl;
   no_base = λ c rest e. let i : c ≡ 117 = cc e in (ap (λ d. d == 120) i, ap (λ d. d == 111) i, ap (λ d. d == 98) i);
 }
+
+-- each of the suffixes
+pub plain_represented : (n : ℕ) → n < 2 ^ 128 → int_value (chars (decimal n)) ≡ Some n
+plain_represented n h = ap (λ l. int_value (chars l)) (sym (append-nil (decimal n))) ∙ number_represented n [] (omega (arith, h)) no_suffix
+
+pub u8_represented : (n : ℕ) → n < 2 ^ 128 → int_value (chars (decimal n ++ codes "u8")) ≡ Some n
+u8_represented n h = number_represented n (codes "u8") (omega (arith, h)) (unsigned_suffix (56 ∷ []) (IsAscii-cons 56 [] (omega arith) IsAscii-nil))
+
+pub u16_represented : (n : ℕ) → n < 2 ^ 128 → int_value (chars (decimal n ++ codes "u16")) ≡ Some n
+u16_represented n h = number_represented n (codes "u16") (omega (arith, h)) (unsigned_suffix (49 ∷ 54 ∷ []) (IsAscii-cons 49 (54 ∷ []) (omega arith) (IsAscii-cons 54 [] (omega arith) IsAscii-nil)))
+
+pub u32_represented : (n : ℕ) → n < 2 ^ 128 → int_value (chars (decimal n ++ codes "u32")) ≡ Some n
+u32_represented n h = number_represented n (codes "u32") (omega (arith, h)) (unsigned_suffix (51 ∷ 50 ∷ []) (IsAscii-cons 51 (50 ∷ []) (omega arith) (IsAscii-cons 50 [] (omega arith) IsAscii-nil)))
+
+pub u64_represented : (n : ℕ) → n < 2 ^ 128 → int_value (chars (decimal n ++ codes "u64")) ≡ Some n
+u64_represented n h = number_represented n (codes "u64") (omega (arith, h)) (unsigned_suffix (54 ∷ 52 ∷ []) (IsAscii-cons 54 (52 ∷ []) (omega arith) (IsAscii-cons 52 [] (omega arith) IsAscii-nil)))
+
+pub u128_represented : (n : ℕ) → n < 2 ^ 128 → int_value (chars (decimal n ++ codes "u128")) ≡ Some n
+u128_represented n h = number_represented n (codes "u128") (omega (arith, h)) (unsigned_suffix (49 ∷ 50 ∷ 56 ∷ []) (IsAscii-cons 49 (50 ∷ 56 ∷ []) (omega arith) (IsAscii-cons 50 (56 ∷ []) (omega arith) (IsAscii-cons 56 [] (omega arith) IsAscii-nil))))
+
+pub usize_represented : (n : ℕ) → n < 2 ^ 128 → int_value (chars (decimal n ++ codes "usize")) ≡ Some n
+usize_represented n h = number_represented n (codes "usize") (omega (arith, h)) (unsigned_suffix (115 ∷ 105 ∷ 122 ∷ 101 ∷ []) (IsAscii-cons 115 (105 ∷ 122 ∷ 101 ∷ []) (omega arith) (IsAscii-cons 105 (122 ∷ 101 ∷ []) (omega arith) (IsAscii-cons 122 (101 ∷ []) (omega arith) (IsAscii-cons 101 [] (omega arith) IsAscii-nil)))))
