@@ -11,6 +11,7 @@ pub mod Looks
 pub mod Members
 pub mod MetaValues
 pub mod Metas
+pub mod NestedMetas
 pub mod Ordered
 pub mod OrderedPrints
 pub mod Parameters

@@ -1,9 +1,8 @@
 -- WHAT CALLERS ASK OF PATHS AND ATTRIBUTES.
 use Rattle.std.specs.Prelude.{◌≡◌, Bool, true, false, List, [], ◌∷◌, Option, Some, None, Result, Ok, Err}
-use Rattle.syn_grammar.specs.Words.{Text, comma}
+use Rattle.syn_grammar.specs.Words.{Text}
 use Rattle.syn_grammar.specs.Tokens as grammar
-use Rattle.syn_grammar.specs.Tokens.{ident, Stream, end, same_text}
-use Rattle.syn_grammar.specs.Take.{take_mark}
+use Rattle.syn_grammar.specs.Tokens.{Stream, ident, same_text}
 use Rattle.syn_grammar.specs.Grammar.{Syntax, Nothing, Token, Both, Left, Right, Node, Shaped}
 use Rattle.syn_tokens.specs.Faults.{ErrorValue, syntax_error, IsSyntaxError}
 use Rattle.syn_tokens.specs.declared.span.Span.{Span}
@@ -67,15 +66,14 @@ closing_of (MacroDelimiter-m.Bracket d) = d.closing
 abbrev pub IsFault : Text → ErrorValue → Type 0
 IsFault text e = (span : Span) × (e ≡ syntax_error ((span, text) ∷ []))
 
--- METAS IN THE ARGUMENTS OF AN ATTRIBUTE, one after another. `takes` says what is done with one: from the state before, its path, the
--- tokens after the path and those that are left, to the state after it.
-module _ {L : Type 0} (takes : L → Syntax → Stream → Stream → L → Type 0) (reads_path : Stream → Syntax → Stream → Type 0) where
-  pub data TakesAll : L → Stream → L → Type 0 where
-    none : {l : L} → TakesAll l end l  -- no meta is left
-    last : {l m : L} {ts r : Stream} {path : Syntax} → reads_path ts path r → takes l path r end m → TakesAll l ts m  -- no comma follows the last one
-    more : {l m n : L} {ts r s u : Stream} {path sign : Syntax} → reads_path ts path r → takes l path r s m → take_mark comma s ≡ Some (sign, u) → TakesAll m u n → TakesAll l ts n
+-- THE ARGUMENTS OF AN ATTRIBUTE
 
--- THE ARGUMENTS OF AN ATTRIBUTE as a value: refused where there are none
+-- it has arguments, and this holds of their tokens
+abbrev pub AreArguments : (Stream → Type 0) → Meta-m.the_data → Type 0
+AreArguments P (Meta-m.List m) = P m.tokens
+AreArguments P _ = ⊥
+
+-- as a value: refused where there are none
 abbrev pub ArgsOutcome : {X : Type 0} → (X → Syntax) → Form → Meta-m.the_data → Result X ErrorValue → Type 0
 ArgsOutcome view f (Meta-m.List m) r = WholeOutcome IsSyntaxError view f m.tokens r
 ArgsOutcome view f _ (Ok x) = ⊥

@@ -1,10 +1,17 @@
 //! Metas in the arguments of an attribute, one after another.
-ghost use Rattle.std.specs.Prelude.{◌≡◌, IfOk, IsOk, OnOk, Some};
-ghost use Rattle.syn_grammar.specs.Words.{equals};
-ghost use Rattle.syn_grammar.specs.Tokens.{end};
+ghost use Rattle.std.specs.Prelude.{◌≡◌, IfOk, OnOk, Some, None};
+ghost use Rattle.syn_grammar.specs.Words.{colons, equals};
+ghost use Rattle.syn_grammar.specs.Tokens as grammar;
+ghost use Rattle.syn_grammar.specs.Tokens.{Stream};
 ghost use Rattle.syn_grammar.specs.Grammar.{Syntax};
-ghost use Rattle.syn_grammar.specs.Take.{take_mark};
-ghost use Rattle.syn_lower.specs.Metas.{IsFault, IsList};
+ghost use Rattle.syn_grammar.specs.Take.{take_group, take_mark};
+ghost use Rattle.syn_grammar.specs.Promises.{itself};
+ghost use Rattle.syn_tokens.specs.Listing.{joined_of};
+ghost use Rattle.syn_tokens.specs.Kinds.{path_sep_syntax};
+ghost use Rattle.syn_parse.specs.Opened.{content_of};
+ghost use Rattle.syn_lower.specs.Metas.{AreArguments, IsFault};
+ghost use Rattle.syn_lower.specs.NestedMetas.{AfterComma, CallsForAll, HandlesAll, ReadsColons, ReadsPath, ReadsWords};
+ghost use Rattle.syn_lower.specs.declared.attr.nested.ParseNestedMeta.{ParseNestedMeta};
 
 use crate::{Attribute, MetaList, Path, PathArguments, PathSegment};
 use syn_parse::buffer::ParseBuffer;
@@ -26,8 +33,12 @@ pub struct ParseNestedMeta<'b> {
 /// What is done with each meta among the arguments of an attribute. A closure does for most callers; this trait is for those whose
 /// closure the prover doesn't cover: it may capture one variable, which holds no reference.
 pub trait MetaLogic {
+    /// What handling a meta does: the value before, the meta before and after, and the value after.
+    ghost handles: { Self → ParseNestedMeta → ParseNestedMeta → Self → Type 0 } = { λ old before after new. Unit {0} };
+
     /// Handles a meta: reads what follows its path from `meta.input`, or refuses it.
-    fn meta(&mut self, meta: &mut ParseNestedMeta<'_>) -> Result<()>;
+    fn meta(&mut self, meta: &mut ParseNestedMeta<'_>) -> Result<()>
+        ensures { OnOk result (handles self.old meta.old meta.new self.new) };
 }
 
 impl<'b> ParseNestedMeta<'b> {
@@ -50,13 +61,18 @@ impl<'b> ParseNestedMeta<'b> {
         logic: F,
     ) -> Result<()>
         requires { F.IsAlwaysCallable logic }
+        ensures ok { OnOk result ((content : Stream) × (content_of (take_group grammar.Paren self.old.input) ≡ Some content) × CallsForAll F.FnMut R.answers logic content) }
+        ensures path { self.new.path ≡ self.old.path }
     {
         let (_parentheses, content) = self.input.parenthesized()?;
         call_for_each(content, logic)
     }
 
     /// The same by a value that handles each meta.
-    pub fn parse_nested_meta_with<L: MetaLogic>(&mut self, logic: &mut L) -> Result<()> {
+    pub fn parse_nested_meta_with<L: MetaLogic>(&mut self, logic: &mut L) -> Result<()>
+        ensures ok { OnOk result ((content : Stream) × (content_of (take_group grammar.Paren self.old.input) ≡ Some content) × HandlesAll L.handles logic.old content logic.new) }
+        ensures path { self.new.path ≡ self.old.path }
+    {
         let (_parentheses, content) = self.input.parenthesized()?;
         handle_each(content, logic)
     }
@@ -81,7 +97,7 @@ impl MetaList {
         logic: F,
     ) -> Result<()>
         requires { F.IsAlwaysCallable logic }
-        ensures { self.now.tokens ≡ end → IsOk result }
+        ensures { OnOk result (CallsForAll F.FnMut R.answers logic self.now.tokens) }
     {
         let content = ParseBuffer::within(&self.tokens, self.delimiter.closing());
         call_for_each(content, logic)
@@ -89,7 +105,7 @@ impl MetaList {
 
     /// The same by a value that handles each meta.
     pub fn parse_nested_meta_with<L: MetaLogic>(&self, logic: &mut L) -> Result<()>
-        ensures { self.now.tokens ≡ end → IsOk result }
+        ensures { OnOk result (HandlesAll L.handles logic.old self.now.tokens logic.new) }
     {
         let content = ParseBuffer::within(&self.tokens, self.delimiter.closing());
         handle_each(content, logic)
@@ -107,14 +123,14 @@ impl Attribute {
         logic: F,
     ) -> Result<()>
         requires { F.IsAlwaysCallable logic }
-        ensures { OnOk result (IsList self.now.meta) }
+        ensures ok { OnOk result (AreArguments (CallsForAll F.FnMut R.answers logic) self.now.meta) }
     {
         self.meta.require_list()?.parse_nested_meta(logic)
     }
 
     /// The same by a value that handles each meta.
     pub fn parse_nested_meta_with<L: MetaLogic>(&self, logic: &mut L) -> Result<()>
-        ensures { OnOk result (IsList self.now.meta) }
+        ensures ok { OnOk result (AreArguments (λ tokens. HandlesAll L.handles logic.old tokens logic.new) self.now.meta) }
     {
         self.meta.require_list()?.parse_nested_meta_with(logic)
     }
@@ -126,7 +142,7 @@ fn call_for_each<R: Answer<Error, Node = ()>, F: FnMut(&mut ParseNestedMeta<'_>)
     mut logic: F,
 ) -> Result<()>
     requires { F.IsAlwaysCallable logic }
-    ensures { input.entry ≡ end → IsOk result }
+    ensures { OnOk result (CallsForAll F.FnMut R.answers logic input.entry) }
 {
     // each meta has a token: a function that moves the buffer back isn't called without end
     for _ in 0..input.cursor().len() {
@@ -143,7 +159,7 @@ fn call_for_each<R: Answer<Error, Node = ()>, F: FnMut(&mut ParseNestedMeta<'_>)
 
 /// Handles each meta up to the end.
 fn handle_each<L: MetaLogic>(mut input: ParseBuffer<'_>, logic: &mut L) -> Result<()>
-    ensures { input.entry ≡ end → IsOk result }
+    ensures { OnOk result (HandlesAll L.handles logic.old input.entry logic.new) }
 {
     // as above
     for _ in 0..input.cursor().len() {
@@ -159,7 +175,9 @@ fn handle_each<L: MetaLogic>(mut input: ParseBuffer<'_>, logic: &mut L) -> Resul
 }
 
 /// Parses the path of a meta.
-fn next_meta<'b>(input: &mut ParseBuffer<'b>) -> Result<ParseNestedMeta<'b>> {
+fn next_meta<'b>(input: &mut ParseBuffer<'b>) -> Result<ParseNestedMeta<'b>>
+    ensures { IfOk result (λ m. ReadsPath m.path input.old m.input) }
+{
     let path = meta_path(input)?;
     Ok(ParseNestedMeta {
         path,
@@ -168,7 +186,9 @@ fn next_meta<'b>(input: &mut ParseBuffer<'b>) -> Result<ParseNestedMeta<'b>> {
 }
 
 /// Parses a comma, unless the end is next.
-fn next_comma(input: &mut ParseBuffer<'_>) -> Result<()> {
+fn next_comma(input: &mut ParseBuffer<'_>) -> Result<()>
+    ensures { OnOk result (AfterComma input.old input.new) }
+{
     if !input.is_empty() {
         let _comma: Comma = input.parse()?;
     }
@@ -176,8 +196,22 @@ fn next_comma(input: &mut ParseBuffer<'_>) -> Result<()> {
 }
 
 /// Parses a path of any identifiers, also keywords.
-fn meta_path(input: &mut ParseBuffer<'_>) -> Result<Path> {
+fn meta_path(input: &mut ParseBuffer<'_>) -> Result<Path>
+    ensures { IfOk result (λ path. ReadsPath path input.old input.new) }
+{
     let leading_colon: Option<PathSep> = input.parse()?;
+    let segments = meta_words(input)?;
+    Ok(Path {
+        leading_colon,
+        segments,
+    })
+}
+
+/// Parses identifiers with `::` between them.
+fn meta_words(input: &mut ParseBuffer<'_>) -> Result<Punctuated<PathSegment, PathSep>>
+    ensures words { IfOk result (λ l. ReadsWords (joined_of itself path_sep_syntax l.pairs l.last) input.old input.new) }
+    ensures all { OnOk result (take_mark colons input.new ≡ None) }
+{
     let mut segments = Punctuated::new(input.alloc());
     'segments: loop {
         let segment = PathSegment {
@@ -186,10 +220,7 @@ fn meta_path(input: &mut ParseBuffer<'_>) -> Result<Path> {
         };
         if !input.peek::<PathSep>() {
             segments.push_value(segment)?;
-            return Ok(Path {
-                leading_colon,
-                segments,
-            });
+            return Ok(segments);
         }
         let separator = input.parse()?;
         segments.push_pair(segment, separator)?;
