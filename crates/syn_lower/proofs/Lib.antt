@@ -12,6 +12,7 @@ pub mod Lists
 mod Literals
 pub mod Nameless
 mod Numbers
+pub mod NestedMetas
 pub mod Ordered
 mod Ordering
 mod ParameterRows

@@ -45,6 +45,10 @@ module _ {L : Type 0} (handles : L → ParseNestedMeta → ParseNestedMeta → L
     more : {l m n : L} {ts r : Stream} {old new : ParseNestedMeta} →
         ReadsPath old.path ts old.input → handles l old new m → AfterComma new.input r → HandlesAll m r n → HandlesAll l ts n
 
+  -- what is left to handle of ts after l, together with what was handled before, is all of us from k on
+  abbrev pub Leads : L → Stream → L → Stream → Type 0
+  Leads k us l ts = (n : L) → HandlesAll l ts n → HandlesAll k us n
+
 -- one call of a function, whose answer is no error
 module _ {F R : Type 0} {T : Type 0} (calls : Mut F (MutBor ParseNestedMeta × Unit {0}) (R × (MutBor ParseNestedMeta × Unit {0}))) (answers : R → Result T ErrorValue) where
   pub record IsHandled (f : F) (old new : ParseNestedMeta) (g : F) : Type 0 where

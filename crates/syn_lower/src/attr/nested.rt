@@ -1,8 +1,8 @@
 //! Metas in the arguments of an attribute, one after another.
-ghost use Rattle.std.specs.Prelude.{◌≡◌, IfOk, OnOk, Some, None};
+ghost use Rattle.std.specs.Prelude.{◌≡◌, IfOk, IsOk, OnOk, Some, None};
 ghost use Rattle.syn_grammar.specs.Words.{colons, equals};
 ghost use Rattle.syn_grammar.specs.Tokens as grammar;
-ghost use Rattle.syn_grammar.specs.Tokens.{Stream};
+ghost use Rattle.syn_grammar.specs.Tokens.{Stream, end};
 ghost use Rattle.syn_grammar.specs.Grammar.{Syntax};
 ghost use Rattle.syn_grammar.specs.Take.{take_group, take_mark};
 ghost use Rattle.syn_grammar.specs.Promises.{itself};
@@ -97,7 +97,8 @@ impl MetaList {
         logic: F,
     ) -> Result<()>
         requires { F.IsAlwaysCallable logic }
-        ensures { OnOk result (CallsForAll F.FnMut R.answers logic self.now.tokens) }
+        ensures ok { OnOk result (CallsForAll F.FnMut R.answers logic self.now.tokens) }
+        ensures none { self.now.tokens ≡ end → IsOk result }
     {
         let content = ParseBuffer::within(&self.tokens, self.delimiter.closing());
         call_for_each(content, logic)
@@ -105,7 +106,8 @@ impl MetaList {
 
     /// The same by a value that handles each meta.
     pub fn parse_nested_meta_with<L: MetaLogic>(&self, logic: &mut L) -> Result<()>
-        ensures { OnOk result (HandlesAll L.handles logic.old self.now.tokens logic.new) }
+        ensures ok { OnOk result (HandlesAll L.handles logic.old self.now.tokens logic.new) }
+        ensures none { self.now.tokens ≡ end → IsOk result }
     {
         let content = ParseBuffer::within(&self.tokens, self.delimiter.closing());
         handle_each(content, logic)
@@ -142,7 +144,8 @@ fn call_for_each<R: Answer<Error, Node = ()>, F: FnMut(&mut ParseNestedMeta<'_>)
     mut logic: F,
 ) -> Result<()>
     requires { F.IsAlwaysCallable logic }
-    ensures { OnOk result (CallsForAll F.FnMut R.answers logic input.entry) }
+    ensures ok { OnOk result (CallsForAll F.FnMut R.answers logic input.entry) }
+    ensures none { input.entry ≡ end → IsOk result }
 {
     // each meta has a token: a function that moves the buffer back isn't called without end
     for _ in 0..input.cursor().len() {
@@ -159,7 +162,8 @@ fn call_for_each<R: Answer<Error, Node = ()>, F: FnMut(&mut ParseNestedMeta<'_>)
 
 /// Handles each meta up to the end.
 fn handle_each<L: MetaLogic>(mut input: ParseBuffer<'_>, logic: &mut L) -> Result<()>
-    ensures { OnOk result (HandlesAll L.handles logic.old input.entry logic.new) }
+    ensures ok { OnOk result (HandlesAll L.handles logic.old input.entry logic.new) }
+    ensures none { input.entry ≡ end → IsOk result }
 {
     // as above
     for _ in 0..input.cursor().len() {
