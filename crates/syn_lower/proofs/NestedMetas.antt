@@ -1,5 +1,5 @@
 -- Metas in turn: what one more call does.
-use Rattle.std.proofs.Common.{◌≡◌, List, [], ◌∷◌, ◌++◌, Some, None, sym, subst}
+use Rattle.std.proofs.Common.{◌≡◌, List, [], ◌∷◌, ◌++◌, Some, None, refl, sym, subst}
 use Rattle.syn_grammar.specs.Tokens.{Stream, end}
 use Rattle.syn_grammar.specs.Take.{take_mark, take_token}
 use Rattle.syn_grammar.specs.Words.{colons}
@@ -8,7 +8,6 @@ use Rattle.syn_grammar.specs.Promises.{itself}
 use Rattle.syn_tokens.specs.Listing.{onto, untagged, joined_of}
 use Rattle.syn_parse.proofs.Listing.{onto_more}
 use Rattle.syn_lower.specs.NestedMetas.{ReadsWord, ReadsWords, ReadsPath, AfterComma, HandlesAll, Leads}
-use Rattle.syn_lower.specs.NestedMetas.HandlesAll.{none, more}
 use Rattle.syn_lower.specs.declared.attr.nested.ParseNestedMeta.{ParseNestedMeta}
 
 module _ {L : Type 0} (handles : L → ParseNestedMeta → ParseNestedMeta → L → Type 0) where
@@ -17,17 +16,17 @@ module _ {L : Type 0} (handles : L → ParseNestedMeta → ParseNestedMeta → L
 
   pub leads_on : (k l m : L) (us ts r : Stream) (old new : ParseNestedMeta) → Leads handles k us l ts
       → ReadsPath old.path ts old.input → handles l old new m → AfterComma new.input r → Leads handles k us m r
-  leads_on k l m us ts r old new h path call comma n g = h n (more path call comma g)
+  leads_on k l m us ts r old new h path call comma n g = h n ((old, new) ∷ g.0, (m, r, path, call, comma, g.1))
 
   pub leads_end : (k l : L) (us ts : Stream) → Leads handles k us l ts → ts ≡ end → HandlesAll handles k us l
-  leads_end k l us ts h e = h l (subst (λ s. HandlesAll handles l s l) (sym e) none)
+  leads_end k l us ts h e = h l ([], (e, refl))
 
 -- WORDS of a path, with `::` between them
 module _ {P : Type 0} (sign_of : P → Syntax) where
   -- one more word and its `::` are read
   pub words_on : (l : List (Syntax × P)) (word : Syntax) (sign : P) (us ts m r : Stream)
-      → ((words : Syntax) (end : Stream) → ReadsWords words ts end → ReadsWords (onto untagged itself sign_of l words) us end)
+      → ((words : Syntax) (rest : Stream) → ReadsWords words ts rest → ReadsWords (onto untagged itself sign_of l words) us rest)
       → ReadsWord word ts m → take_mark colons m ≡ Some (sign_of sign, r)
-      → (words : Syntax) (end : Stream) → ReadsWords words r end → ReadsWords (onto untagged itself sign_of (l ++ (word, sign) ∷ []) words) us end
+      → (words : Syntax) (rest : Stream) → ReadsWords words r rest → ReadsWords (onto untagged itself sign_of (l ++ (word, sign) ∷ []) words) us rest
   words_on l word sign us ts m r h first colon words last rest =
       subst (λ s. ReadsWords s us last) (sym (onto_more untagged itself sign_of l (word, sign) words)) (h _ last (m, r, first, colon, rest))

@@ -1,5 +1,5 @@
 -- METAS AMONG THE ARGUMENTS OF AN ATTRIBUTE, one after another.
-use Rattle.std.specs.Prelude.{◌≡◌, ◌⊎◌, Some, None, Result, IsOk}
+use Rattle.std.specs.Prelude.{◌≡◌, ◌⊎◌, List, [], ◌∷◌, Some, None, Result, IsOk}
 use Rattle.std.specs.Fn.{Mut, CalledAtMut}
 use denote.Ref.{MutBor}
 use Rattle.syn_grammar.specs.Words.{colons, comma}
@@ -39,11 +39,14 @@ AfterComma ts r = ((ts ≡ end) × (r ≡ end)) ⊎ ((sign : Syntax) × (take_ma
 
 -- ALL METAS. `handles` says what is done with one: the value before, the meta before and after, and the value after.
 module _ {L : Type 0} (handles : L → ParseNestedMeta → ParseNestedMeta → L → Type 0) where
-  -- from the first value, the metas of all these tokens in turn lead to the last value
-  pub data HandlesAll : L → Stream → L → Type 0 where
-    none : {l : L} → HandlesAll l end l
-    more : {l m n : L} {ts r : Stream} {old new : ParseNestedMeta} →
-        ReadsPath old.path ts old.input → handles l old new m → AfterComma new.input r → HandlesAll m r n → HandlesAll l ts n
+  -- the first value handles these metas, before and after, one after another, and becomes the last value; they are all that the tokens are
+  abbrev pub Handles : L → List (ParseNestedMeta × ParseNestedMeta) → Stream → L → Type 0
+  Handles l [] ts n = (ts ≡ end) × (n ≡ l)
+  Handles l (x ∷ metas) ts n =
+      (m : L) × (r : Stream) × ReadsPath x.0.path ts x.0.input × handles l x.0 x.1 m × AfterComma x.1.input r × Handles m metas r n
+
+  abbrev pub HandlesAll : L → Stream → L → Type 0
+  HandlesAll l ts n = (metas : List (ParseNestedMeta × ParseNestedMeta)) × Handles l metas ts n
 
   -- what is left to handle of ts after l, together with what was handled before, is all of us from k on
   abbrev pub Leads : L → Stream → L → Stream → Type 0
