@@ -7,18 +7,22 @@ use Rattle.syn_grammar.specs.Grammar.{Syntax, identifier}
 use Rattle.syn_grammar.specs.Promises.{itself}
 use Rattle.syn_tokens.specs.Listing.{onto, untagged, joined_of}
 use Rattle.syn_parse.proofs.Listing.{onto_more}
-use Rattle.syn_lower.specs.NestedMetas.{ReadsWord, ReadsWords, ReadsPath, AfterComma, HandlesAll, Leads}
+use Rattle.syn_lower.specs.NestedMetas.{ReadsWord, ReadsWords, ReadsPath, AfterComma, HandlesAll}
 use Rattle.syn_lower.specs.declared.attr.nested.ParseNestedMeta.{ParseNestedMeta}
 
 module _ {L : Type 0} (handles : L → ParseNestedMeta → ParseNestedMeta → L → Type 0) where
-  pub leads_self : (l : L) (ts : Stream) → Leads handles l ts l ts
+  -- what is left to handle of ts after l, together with what was handled before, is all of us from k on
+  abbrev pub Leads : L → Stream → L → Stream → Type 0
+  Leads k us l ts = (n : L) → HandlesAll handles l ts n → HandlesAll handles k us n
+
+  pub leads_self : (l : L) (ts : Stream) → Leads l ts l ts
   leads_self l ts n h = h
 
-  pub leads_on : (k l m : L) (us ts r : Stream) (old new : ParseNestedMeta) → Leads handles k us l ts
-      → ReadsPath old.path ts old.input → handles l old new m → AfterComma new.input r → Leads handles k us m r
+  pub leads_on : (k l m : L) (us ts r : Stream) (old new : ParseNestedMeta) → Leads k us l ts
+      → ReadsPath old.path ts old.input → handles l old new m → AfterComma new.input r → Leads k us m r
   leads_on k l m us ts r old new h path call comma n g = h n ((old, new) ∷ g.0, (m, r, path, call, comma, g.1))
 
-  pub leads_end : (k l : L) (us ts : Stream) → Leads handles k us l ts → ts ≡ end → HandlesAll handles k us l
+  pub leads_end : (k l : L) (us ts : Stream) → Leads k us l ts → ts ≡ end → HandlesAll handles k us l
   leads_end k l us ts h e = h l ([], (e, refl))
 
 -- WORDS of a path, with `::` between them

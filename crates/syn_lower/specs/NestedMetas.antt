@@ -48,10 +48,6 @@ module _ {L : Type 0} (handles : L → ParseNestedMeta → ParseNestedMeta → L
   abbrev pub HandlesAll : L → Stream → L → Type 0
   HandlesAll l ts n = (metas : List (ParseNestedMeta × ParseNestedMeta)) × Handles l metas ts n
 
-  -- what is left to handle of ts after l, together with what was handled before, is all of us from k on
-  abbrev pub Leads : L → Stream → L → Stream → Type 0
-  Leads k us l ts = (n : L) → HandlesAll l ts n → HandlesAll k us n
-
 -- one call of a function, whose answer is no error
 module _ {F R : Type 0} {T : Type 0} (calls : Mut F (MutBor ParseNestedMeta × Unit {0}) (R × (MutBor ParseNestedMeta × Unit {0}))) (answers : R → Result T ErrorValue) where
   pub record IsHandled (f : F) (old new : ParseNestedMeta) (g : F) : Type 0 where

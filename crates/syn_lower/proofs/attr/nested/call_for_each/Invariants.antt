@@ -1,6 +1,7 @@
 use Rattle.std.proofs.Common.{◌≡◌}
 use Rattle.syn_grammar.specs.Tokens.{end}
-use Rattle.syn_lower.specs.NestedMetas.{IsHandled, Leads}
+use Rattle.syn_lower.specs.NestedMetas.{IsHandled}
+use Rattle.syn_lower.proofs.NestedMetas.{Leads}
 use Rattle.syn_lower.proofs.attr.nested.call_for_each.Given as goal
 
 abbrev pub invariant-loop : goal.invariant-loop

@@ -1,6 +1,6 @@
 use Rattle.std.proofs.Common.{◌≡◌}
 use Rattle.syn_grammar.specs.Tokens.{end}
-use Rattle.syn_lower.specs.NestedMetas.{Leads}
+use Rattle.syn_lower.proofs.NestedMetas.{Leads}
 use Rattle.syn_lower.proofs.attr.nested.handle_each.Given as goal
 
 abbrev pub invariant-loop : goal.invariant-loop
