@@ -1,5 +1,6 @@
 -- WHAT LITERALS REPRESENT, by the characters of their texts.
-use Rattle.std.specs.Prelude.{◌≡◌, ◌≤◌, ℕ, suc, length, Bool, true, false, ◌&&◌, ◌||◌, ◌==◌, nat_lt, List, [], ◌∷◌, Option, Some, None, if◌then◌else◌}
+use Rattle.std.specs.Prelude.{◌≡◌, ◌+◌, ◌≤◌, ℕ, suc, length, Bool, true, false, ◌&&◌, ◌||◌, ◌==◌, nat_lt, List, [], ◌∷◌, Option, Some, None, if◌then◌else◌}
+use Rattle.std.specs.Str.{encode_utf8_all}
 use Rattle.syn_grammar.specs.Take.{only}
 use Rattle.syn_tokens.specs.LiteralContents.{Next, all_parts, has_hashes, lone_part, plain_bytes, string_part, text_bytes}
 use Rattle.syn_tokens.specs.Faults.{ErrorValue, syntax_error}
@@ -101,18 +102,75 @@ after_b_value (Some cs) = as_byte (quoted_value Bytes cs)
 abbrev pub byte_value : List ℕ → Option ℕ
 byte_value cs = after_b_value (after_letter Bytes cs)
 
+-- WHERE A TEXT IS WRONG: the characters from there on
+
+module _ (bytes_of : Part → List ℕ) (content : Content) where
+  abbrev pub wrong_content : List ℕ → Option (Form × List ℕ) → List ℕ
+  wrong_content cs None = cs
+  wrong_content cs (Some (form, ds)) = (all_parts bytes_of (string_part form content) ds).1
+
+  abbrev pub wrong_opened : List ℕ → Option (List ℕ) → List ℕ
+  wrong_opened cs None = cs
+  wrong_opened cs (Some ds) = wrong_content cs (opened ds)
+
+  -- of a string: those after its parts; all if no such string begins
+  abbrev pub wrong_in_string : List ℕ → List ℕ
+  wrong_in_string cs = wrong_opened cs (after_letter content cs)
+
+abbrev pub wrong_in_str : List ℕ → List ℕ
+wrong_in_str = wrong_in_string text_bytes Text
+
+abbrev pub wrong_in_byte_str : List ℕ → List ℕ
+wrong_in_byte_str = wrong_in_string plain_bytes Bytes
+
+abbrev pub wrong_in_c_str : List ℕ → List ℕ
+wrong_in_c_str = wrong_in_string plain_bytes CText
+
+abbrev pub wrong_part : List ℕ → Next → List ℕ
+wrong_part cs None = cs
+wrong_part cs (Some (p, ds)) = ds
+
+-- of a literal in `'`: those after its one part, or after the quote; all if it doesn't begin with a quote
+unfoldable pub wrong_quoted : Content → List ℕ → List ℕ
+wrong_quoted content [] = []
+wrong_quoted content (c ∷ cs) = if c == 39 then wrong_part cs (lone_part content cs) else c ∷ cs
+
+abbrev pub wrong_in_char : List ℕ → List ℕ
+wrong_in_char cs = wrong_quoted Text cs
+
+-- of a byte: all if the one part is no byte
+abbrev pub wrong_value : List ℕ → List ℕ → Option ℕ → List ℕ
+wrong_value cs ds None = wrong_quoted Bytes ds
+wrong_value cs ds (Some n) = cs
+
+abbrev pub wrong_after_b : List ℕ → Option (List ℕ) → List ℕ
+wrong_after_b cs None = cs
+wrong_after_b cs (Some ds) = wrong_value cs ds (quoted_value Bytes ds)
+
+abbrev pub wrong_in_byte : List ℕ → List ℕ
+wrong_in_byte cs = wrong_after_b cs (after_letter Bytes cs)
+
 -- REFUSALS
 
--- one fault, within this span
-abbrev pub HasFaultIn : Span → ErrorValue → Type 0
-HasFaultIn s e = (at : Span) × (text : List ℕ) × (e ≡ syntax_error ((at, text) ∷ [])) × (s.start ≤ at.start) × (at.end ≤ s.end)
+-- one fault, at this span
+abbrev pub HasFaultAt : Span → ErrorValue → Type 0
+HasFaultAt s e = (text : List ℕ) × (e ≡ syntax_error ((s, text) ∷ []))
+
+-- one fault, within the span of a literal of n bytes; if the span is as long, it begins where k bytes are left
+abbrev pub HasFaultFrom : Span → ℕ → ℕ → ErrorValue → Type 0
+HasFaultFrom s n k e =
+    (at : Span) × (text : List ℕ) × (e ≡ syntax_error ((at, text) ∷ [])) × (s.start ≤ at.start) × (at.end ≤ s.end) × (s.end ≡ s.start + n → at.start + k ≡ s.end)
+
+-- one fault in a literal with this span and text, at these characters of it
+abbrev pub IsWrongFrom : Span → List ℕ → List ℕ → ErrorValue → Type 0
+IsWrongFrom s text wrong e = HasFaultFrom s (length text) (length (encode_utf8_all wrong)) e
 
 -- the text is at fault, and not memory
 abbrev pub IsFault : Stop → Type 0
 IsFault (Memory e) = ⊥
 IsFault (At rest) = Unit {0}
 
--- what is left where a text is at fault is no longer than the text
-abbrev pub StopsWithin : List ℕ → Stop → Type 0
-StopsWithin text (Memory e) = Unit {0}
-StopsWithin text (At rest) = length rest.now ≤ length text
+-- these characters are left where a text is at fault, and no more than the text
+abbrev pub StopsAt : List ℕ → List ℕ → Stop → Type 0
+StopsAt text wrong (Memory e) = Unit {0}
+StopsAt text wrong (At rest) = (length rest.now ≤ length text) × (length rest.now ≡ length (encode_utf8_all wrong))

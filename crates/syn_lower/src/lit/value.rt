@@ -3,7 +3,7 @@ ghost use Rattle.std.specs.Prelude.{◌≡◌, IfErr, IfOk, OnErr, Ok, Some, Non
 ghost use Rattle.std.specs.Str.{chars};
 ghost use Rattle.syn_grammar.specs.Promises.{Never};
 ghost use Rattle.syn_tokens.specs.Faults.{IsSyntaxError, IsTooDeepError, out_of_memory};
-ghost use Rattle.syn_tokens.specs.LiteralValues.{HasFaultIn, byte_str_value, byte_value, c_str_value, char_value, str_value};
+ghost use Rattle.syn_tokens.specs.LiteralValues.{IsWrongFrom, byte_str_value, byte_value, c_str_value, char_value, str_value, wrong_in_byte, wrong_in_byte_str, wrong_in_c_str, wrong_in_char, wrong_in_str};
 ghost use Rattle.syn_tokens.specs.Numbers.{IsNoInt, float_digits, int_value, suffix_of};
 ghost use Rattle.syn_lower.specs.LitNumbers.{IsDecimalOf, IsNumberOf};
 
@@ -28,7 +28,7 @@ impl LitToken<kind::Str> {
     pub fn value(&self, alloc: Global) -> Result<String>
         ensures value { IfOk result (λ text. str_value (chars self.now.text) ≡ Some (string_bytes text)) }
         ensures refused { IfErr result (λ e. IsSyntaxError e → str_value (chars self.now.text) ≡ None) }
-        ensures place { IfErr result (λ e. IsSyntaxError e → HasFaultIn self.now.span e) }
+        ensures place { IfErr result (λ e. IsSyntaxError e → IsWrongFrom self.now.span self.now.text (wrong_in_str (chars self.now.text)) e) }
         ensures shallow { Never IsTooDeepError result }
     {
         self.token().str_value(alloc)
@@ -40,7 +40,7 @@ impl LitToken<kind::ByteStr> {
     pub fn value(&self, alloc: Global) -> Result<Vec<u8>>
         ensures value { IfOk result (λ bytes. byte_str_value (chars self.now.text) ≡ Some bytes.items) }
         ensures refused { IfErr result (λ e. IsSyntaxError e → byte_str_value (chars self.now.text) ≡ None) }
-        ensures place { IfErr result (λ e. IsSyntaxError e → HasFaultIn self.now.span e) }
+        ensures place { IfErr result (λ e. IsSyntaxError e → IsWrongFrom self.now.span self.now.text (wrong_in_byte_str (chars self.now.text)) e) }
         ensures shallow { Never IsTooDeepError result }
     {
         self.token().byte_str_value(alloc)
@@ -53,7 +53,7 @@ impl LitToken<kind::CStr> {
     pub fn value(&self, alloc: Global) -> Result<Vec<u8>>
         ensures value { IfOk result (λ bytes. c_str_value (chars self.now.text) ≡ Some bytes.items) }
         ensures refused { IfErr result (λ e. IsSyntaxError e → c_str_value (chars self.now.text) ≡ None) }
-        ensures place { IfErr result (λ e. IsSyntaxError e → HasFaultIn self.now.span e) }
+        ensures place { IfErr result (λ e. IsSyntaxError e → IsWrongFrom self.now.span self.now.text (wrong_in_c_str (chars self.now.text)) e) }
         ensures shallow { Never IsTooDeepError result }
     {
         self.token().c_str_value(alloc)
@@ -66,7 +66,7 @@ impl LitToken<kind::Char> {
     pub fn value(&self) -> Result<char>
         ensures value { IfOk result (λ c. char_value (chars self.now.text) ≡ Some c) }
         ensures refused { OnErr result (char_value (chars self.now.text) ≡ None) }
-        ensures place { IfErr result (HasFaultIn self.now.span) }
+        ensures place { IfErr result (IsWrongFrom self.now.span self.now.text (wrong_in_char (chars self.now.text))) }
     {
         self.token().char_value()
     }
@@ -77,7 +77,7 @@ impl LitToken<kind::Byte> {
     pub fn value(&self) -> Result<u8>
         ensures value { IfOk result (λ b. byte_value (chars self.now.text) ≡ Some b) }
         ensures refused { OnErr result (byte_value (chars self.now.text) ≡ None) }
-        ensures place { IfErr result (HasFaultIn self.now.span) }
+        ensures place { IfErr result (IsWrongFrom self.now.span self.now.text (wrong_in_byte (chars self.now.text))) }
     {
         self.token().byte_value()
     }

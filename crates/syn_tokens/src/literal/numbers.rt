@@ -3,8 +3,8 @@ ghost use Rattle.std.specs.Prelude.{◌≡◌, ◌+◌, ◌*◌, ◌++◌, ◌<�
 ghost use Rattle.std.specs.Char.{digit_value};
 ghost use Rattle.std.specs.Str.{chars};
 ghost use Rattle.syn_tokens.specs.Faults.{out_of_memory};
-ghost use Rattle.syn_tokens.specs.LiteralValues.{HasFaultIn};
-ghost use Rattle.syn_tokens.specs.Numbers.{IsNoInt, after_digits, after_exponent, after_sign, based, digit_class, digits_at, exponent_at, float_digits, float_suffix, has_digit, int_suffix, int_value, is_number, number_from, quoted_suffix, suffix_of, unmarked};
+ghost use Rattle.syn_tokens.specs.LiteralValues.{HasFaultAt};
+ghost use Rattle.syn_tokens.specs.Numbers.{IsNoInt, after_digits, after_exponent, after_sign, based, digit_class, digits_at, exponent_at, float_digits, float_suffix, has_digit, int_suffix, int_value, is_number, number_from, quoted_suffix, sign_at, suffix_of, unmarked};
 ghost use Rattle.syn_tokens.specs.Scans.{after_class, front_class};
 
 use crate::error::{Error, Result};
@@ -86,10 +86,11 @@ fn number(base: u32, text: &str) -> std::result::Result<u128, &'static str>
         if !class.has(first) {
             return Ok(value);
         }
-        if first != '_' {
-            value = with_digit(value, base, first)?;
-        }
         rest = following;
+        if first == '_' {
+            continue;
+        }
+        value = with_digit(value, base, first)?;
     }
     Ok(value)
 }
@@ -180,12 +181,24 @@ fn push_class<'a>(
         if !class.has(first) {
             return Ok(rest);
         }
-        if first != '_' {
-            digits.push(first)?;
-        }
         rest = following;
+        if first == '_' {
+            continue;
+        }
+        digits.push(first)?;
     }
     Ok(rest)
+}
+
+/// Appends `+` or `-`, if one comes first.
+fn push_sign(digits: &mut String, text: &str) -> std::result::Result<(), AllocError>
+    ensures { OnOk result (string_bytes digits.new ≡ string_bytes digits.old ++ encode_utf8_all (sign_at (chars text.now))) }
+{
+    match split_first(text) {
+        Some((sign @ ('+' | '-'), _)) => digits.push(sign),
+        Some(_) => Ok(()),
+        None => Ok(()),
+    }
 }
 
 /// Appends an exponent without `_`, if one comes first.
@@ -201,9 +214,7 @@ fn push_exponent(digits: &mut String, text: &str) -> std::result::Result<(), All
         return Ok(());
     }
     digits.push(letter)?;
-    if let Some((sign @ ('+' | '-'), _)) = split_first(rest) {
-        digits.push(sign)?;
-    }
+    push_sign(digits, rest)?;
     push_class(digits, Class::Decimal, unsigned)?;
     Ok(())
 }
@@ -214,7 +225,7 @@ impl Literal {
     pub fn int_value(&self) -> Result<u128>
         ensures value { IfOk result (λ n. int_value (chars self.now.text) ≡ Some n) }
         ensures refused { OnErr result (IsNoInt (int_value (chars self.now.text))) }
-        ensures place { IfErr result (HasFaultIn self.now.span) }
+        ensures place { IfErr result (HasFaultAt self.now.span) }
     {
         let (base, digits) = based(self.text());
         if !is_number(base, digits) {

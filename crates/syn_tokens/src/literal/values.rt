@@ -4,7 +4,7 @@ ghost use Rattle.std.specs.Str.{chars};
 ghost use Rattle.syn_grammar.specs.Promises.{Never};
 ghost use Rattle.syn_tokens.specs.Faults.{IsMemoryError, IsSyntaxError, IsTooDeepError};
 ghost use Rattle.syn_tokens.specs.LiteralContents.{all_parts, plain_bytes, string_part, text_bytes};
-ghost use Rattle.syn_tokens.specs.LiteralValues.{HasFaultIn, IsFault, StopsWithin, after_letter, byte_str_value, byte_value, c_str_value, char_value, closes, opened, opened_raw, quoted_value, str_value, string_value};
+ghost use Rattle.syn_tokens.specs.LiteralValues.{HasFaultFrom, IsFault, IsWrongFrom, StopsAt, after_letter, byte_str_value, byte_value, c_str_value, char_value, closes, opened, opened_raw, quoted_value, str_value, string_value, wrong_in_byte, wrong_in_byte_str, wrong_in_c_str, wrong_in_char, wrong_in_str, wrong_in_string, wrong_quoted};
 ghost use Rattle.syn_tokens.specs.declared.literal.content.Part.{Part};
 
 use crate::error::{Error, Result};
@@ -165,7 +165,7 @@ fn push_string<'a, S: Sink>(
     requires { S.bytes sink.old ≡ [] }
     ensures value { OnOk result (string_value S.bytes_of content (chars text.now) ≡ Some (S.bytes sink.new)) }
     ensures none { IfErr result (λ stop. IsFault stop → string_value S.bytes_of content (chars text.now) ≡ None) }
-    ensures within { IfErr result (StopsWithin text.now) }
+    ensures place { IfErr result (StopsAt text.now (wrong_in_string S.bytes_of content (chars text.now))) }
 {
     let Some(letterless) = content.after_letter(text) else {
         return Err(Stop::At(text));
@@ -183,10 +183,11 @@ fn push_string<'a, S: Sink>(
 
 /// What a literal in single quotes represents, a byte as the character of its number; if it is no such literal, the text that is
 /// left at what is wrong.
-#[tactic(auto, unfolding(crate::specs::LiteralValues::quoted_value))]
+#[tactic(auto, unfolding(crate::specs::LiteralValues::quoted_value, crate::specs::LiteralValues::wrong_quoted))]
 fn quoted_character(content: Content, text: &str) -> std::result::Result<char, &str>
     ensures value { IfOk result (λ c. quoted_value content (chars text.now) ≡ Some c) }
     ensures none { OnErr result (quoted_value content (chars text.now) ≡ None) }
+    ensures place { IfErr result (λ rest. chars rest.now ≡ wrong_quoted content (chars text.now)) }
     ensures within { IfErr result (λ rest. length rest.now ≤ length text.now) }
 {
     let Some(('\'', inside)) = split_first(text) else {
@@ -199,7 +200,7 @@ fn quoted_character(content: Content, text: &str) -> std::result::Result<char, &
         return Err(rest);
     };
     match part {
-        Part::Nothing => Err(inside),
+        Part::Nothing => Err(rest),
         Part::Character(character) => Ok(character),
         Part::Byte(byte) => Ok(char::from(byte)),
     }
@@ -241,7 +242,7 @@ impl Literal {
     /// whole literal is at fault if its span is not as long as its text.
     fn fault_at(&self, rest: &str, expected: &'static str) -> Error
         requires { length rest.now ≤ length self.now.text }
-        ensures { HasFaultIn self.now.span result }
+        ensures { HasFaultFrom self.now.span (length self.now.text) (length rest.now) result }
     {
         let length = self.text().len();
         if rest.len() == length {
@@ -259,9 +260,9 @@ impl Literal {
 
     /// The error for a text without a value.
     fn stopped(&self, stop: Stop<'_>, expected: &'static str) -> Error
-        requires { StopsWithin self.now.text stop }
+        requires { (wrong : List ℕ) × StopsAt self.now.text wrong stop }
         ensures fault { IsSyntaxError result → IsFault stop }
-        ensures place { IsSyntaxError result → HasFaultIn self.now.span result }
+        ensures place { (wrong : List ℕ) → StopsAt self.now.text wrong stop → IsSyntaxError result → IsWrongFrom self.now.span self.now.text wrong result }
         ensures shallow { IsTooDeepError result → ⊥ }
     {
         match stop {
@@ -275,7 +276,7 @@ impl Literal {
     pub fn str_value(&self, alloc: Global) -> Result<String>
         ensures value { IfOk result (λ text. str_value (chars self.now.text) ≡ Some (string_bytes text)) }
         ensures refused { IfErr result (λ e. IsSyntaxError e → str_value (chars self.now.text) ≡ None) }
-        ensures place { IfErr result (λ e. IsSyntaxError e → HasFaultIn self.now.span e) }
+        ensures place { IfErr result (λ e. IsSyntaxError e → IsWrongFrom self.now.span self.now.text (wrong_in_str (chars self.now.text)) e) }
         ensures shallow { Never IsTooDeepError result }
     {
         let mut value = String::new(alloc);
@@ -290,7 +291,7 @@ impl Literal {
     pub fn byte_str_value(&self, alloc: Global) -> Result<Vec<u8>>
         ensures value { IfOk result (λ bytes. byte_str_value (chars self.now.text) ≡ Some bytes.items) }
         ensures refused { IfErr result (λ e. IsSyntaxError e → byte_str_value (chars self.now.text) ≡ None) }
-        ensures place { IfErr result (λ e. IsSyntaxError e → HasFaultIn self.now.span e) }
+        ensures place { IfErr result (λ e. IsSyntaxError e → IsWrongFrom self.now.span self.now.text (wrong_in_byte_str (chars self.now.text)) e) }
         ensures shallow { Never IsTooDeepError result }
     {
         let mut value = Vec::new(alloc);
@@ -305,7 +306,7 @@ impl Literal {
     pub fn c_str_value(&self, alloc: Global) -> Result<Vec<u8>>
         ensures value { IfOk result (λ bytes. c_str_value (chars self.now.text) ≡ Some bytes.items) }
         ensures refused { IfErr result (λ e. IsSyntaxError e → c_str_value (chars self.now.text) ≡ None) }
-        ensures place { IfErr result (λ e. IsSyntaxError e → HasFaultIn self.now.span e) }
+        ensures place { IfErr result (λ e. IsSyntaxError e → IsWrongFrom self.now.span self.now.text (wrong_in_c_str (chars self.now.text)) e) }
         ensures shallow { Never IsTooDeepError result }
     {
         let mut value = Vec::new(alloc);
@@ -320,7 +321,7 @@ impl Literal {
     pub fn char_value(&self) -> Result<char>
         ensures value { IfOk result (λ c. char_value (chars self.now.text) ≡ Some c) }
         ensures refused { OnErr result (char_value (chars self.now.text) ≡ None) }
-        ensures place { IfErr result (HasFaultIn self.now.span) }
+        ensures place { IfErr result (IsWrongFrom self.now.span self.now.text (wrong_in_char (chars self.now.text))) }
     {
         match quoted_character(Content::Text, self.text()) {
             Ok(character) => Ok(character),
@@ -333,7 +334,7 @@ impl Literal {
     pub fn byte_value(&self) -> Result<u8>
         ensures value { IfOk result (λ b. byte_value (chars self.now.text) ≡ Some b) }
         ensures refused { OnErr result (byte_value (chars self.now.text) ≡ None) }
-        ensures place { IfErr result (HasFaultIn self.now.span) }
+        ensures place { IfErr result (IsWrongFrom self.now.span self.now.text (wrong_in_byte (chars self.now.text))) }
     {
         let Some(quoted) = Content::Bytes.after_letter(self.text()) else {
             return Err(self.fault_at(self.text(), "expected byte literal"));
@@ -344,7 +345,7 @@ impl Literal {
         };
         match u8::try_from(u32::from(character)) {
             Ok(byte) => Ok(byte),
-            Err(_) => Err(self.fault_at(quoted, "expected byte literal")),
+            Err(_) => Err(self.fault_at(self.text(), "expected byte literal")),
         }
     }
 }
