@@ -6,6 +6,7 @@ pub mod Falls
 pub mod GenericPrints
 pub mod Generics
 pub mod LitNumbers
+pub mod LentClauses
 pub mod Literals
 pub mod Looks
 pub mod Members

@@ -1,10 +1,12 @@
 //! Generic parameters as an impl repeats them.
 ghost use Rattle.std.specs.Prelude.{◌≡◌, OnOk};
+ghost use Rattle.std.specs.Borrow.{sem};
 ghost use Rattle.std.specs.Option.{option_copied};
 ghost use Rattle.syn_grammar.specs.Grammar.{print};
 ghost use Rattle.syn_grammar.specs.Promises.{itself};
 ghost use Rattle.syn_tokens.specs.Building.{added};
 ghost use Rattle.syn_lower.specs.Generics.{clause_of, where_part};
+ghost use Rattle.syn_lower.specs.LentClauses.{LendsClause};
 ghost use Rattle.syn_lower.specs.Splits.{bare_member, impl_generics, named_member, parameters_shown, type_generics};
 
 use crate::generics::forms::{Bare, Named, ParamForm};
@@ -72,7 +74,8 @@ impl Generics {
     /// The where clause. If there is none, one without predicates is put there, which prints nothing until a predicate is pushed.
     /// It allocates nothing.
     pub fn make_where_clause(&mut self, alloc: Global) -> &mut WhereClause
-        ensures { print result.now ≡ print (clause_of self.old) }
+        ensures shown { print result.now ≡ print (clause_of self.old) }
+        ensures* writes_back { sem 𝓛 (LendsClause self.entry result) }
     {
         self.where_clause.get_or_insert_with(|| WhereClause {
             where_token: Where::default(),
