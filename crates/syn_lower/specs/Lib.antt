@@ -5,8 +5,8 @@ pub mod Equality
 pub mod Falls
 pub mod GenericPrints
 pub mod Generics
-pub mod LitNumbers
 pub mod LentClauses
+pub mod LitNumbers
 pub mod Literals
 pub mod Looks
 pub mod Members
