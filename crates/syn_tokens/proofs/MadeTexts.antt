@@ -1,11 +1,11 @@
 -- Literals that are made of texts represent these texts.
-use Rattle.std.proofs.Common.{◌≡◌, ℕ, true, false, List, [], ◌∷◌, ◌++◌, Option, Some, None, inl, inr, ◌⊎◌, refl, ap, ap₂, sym, ◌∙◌, subst, append_assoc, append-nil}
+use Rattle.std.proofs.Common.{◌≡◌, ℕ, length, arith, true, false, List, [], ◌∷◌, ◌++◌, Option, Some, None, inl, inr, ◌⊎◌, refl, ap, ap₂, sym, ◌∙◌, subst, append_assoc, append-nil}
 use Rattle.std.specs.Prelude.{◌==◌, ◌||◌, encode_utf8_all, if◌then◌else◌}
 use Rattle.std.specs.Char.{encode_utf8}
 use Rattle.std.specs.Str.{IsUtf8, chars}
 use lib.Utf8.{scalar, scalars}
 use Rattle.std.proofs.lemmas.Bool.{cases_eq, cond-false, ne_eqb, or_from, and_from, and_parts}
-use Rattle.std.proofs.lemmas.Str.{chars-encodes, encodes-append, encodes-chars, scalars-chars}
+use Rattle.std.proofs.lemmas.Str.{chars-nil, chars_past_char, chars-encodes, encodes-append, encodes-chars, scalars-chars}
 use Rattle.syn_tokens.specs.LiteralContents.{text_bytes, after_continuation, escape, cooked_part, lone_part, string_part, all_parts}
 use Rattle.syn_tokens.specs.LiteralTexts.{escaped, all_escaped, quoted_text, quoted_character}
 use Rattle.syn_tokens.specs.LiteralValues.{after_letter, opened, closes, up_to_quote, str_value, quoted_value, char_value, lone_value}
@@ -195,3 +195,14 @@ text_represented text u =
 pub character_represented : (c : ℕ) → scalar c ≡ true → char_value (chars (quoted_character c)) ≡ Some c
 unfolding quoted_value
 character_represented c h = ap char_value (character_characters c h) ∙ ap lone_value (lone_text (39 ∷ []) c)
+
+-- ONE MORE CHARACTER is written; none is left
+pub escaped_more : (q : ℕ) (written text rest : List ℕ) (c : ℕ) (last : List ℕ) → IsUtf8 text → text ≡ encode_utf8 c ++ rest
+    → (written ++ escaped q c) ++ (all_escaped q (chars rest) ++ last) ≡ written ++ (all_escaped q (chars text) ++ last)
+escaped_more q written text rest c last u e =
+    append_assoc written (escaped q c) (all_escaped q (chars rest) ++ last)
+    ∙ ap (λ l. written ++ l) (sym (append_assoc (escaped q c) (all_escaped q (chars rest)) last) ∙ ap (λ l. all_escaped q l ++ last) (sym (chars_past_char text rest c u e)))
+
+pub escaped_all : (q : ℕ) (written text last : List ℕ) → length text ≡ 0 → written ++ last ≡ written ++ (all_escaped q (chars text) ++ last)
+escaped_all q written [] last e = ap (λ l. written ++ (all_escaped q l ++ last)) (sym chars-nil)
+escaped_all q written (c ∷ text) last e = absurd (omega (arith, e))

@@ -71,6 +71,17 @@ fn push_escaped_byte(
     }
 }
 
+/// Appends a text in double quotes.
+fn push_text(quoted: &mut String, text: &str) -> std::result::Result<(), AllocError>
+    ensures { OnOk result (string_bytes quoted.new ≡ string_bytes quoted.old ++ quoted_text (chars text.now)) }
+{
+    quoted.push('"')?;
+    for character in text.chars() {
+        push_escaped(quoted, '"', character)?;
+    }
+    quoted.push('"')
+}
+
 /// Appends bytes in double quotes.
 fn push_bytes(text: &mut String, bytes: &[u8]) -> std::result::Result<(), AllocError>
     ensures { OnOk result (string_bytes text.new ≡ string_bytes text.old ++ quoted_bytes bytes.now) }
@@ -100,11 +111,7 @@ impl Literal {
         ensures memory { IfErr result (λ e. e ≡ out_of_memory) }
     {
         let mut quoted = String::new(alloc);
-        quoted.push('"')?;
-        for character in text.chars() {
-            push_escaped(&mut quoted, '"', character)?;
-        }
-        quoted.push('"')?;
+        push_text(&mut quoted, text)?;
         made(alloc, LitKind::Str, &quoted)
     }
 
