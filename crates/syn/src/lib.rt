@@ -60,12 +60,12 @@ pub mod meta {
 pub mod lower {
     pub use syn_item::sig::Abi;
     pub use syn_lower::{
-        AngleBracketedGenericArguments, AssocType, AttrStyle, Attribute, BoundLifetimes,
-        ConstParam, GenericArgument, GenericParam, Generics, ImplGenerics, Index, LifetimeParam, Lit,
-        LitBool, LitByte, LitByteStr, LitCStr, LitChar, LitFloat, LitInt, LitStr, LitToken, LiteralKind,
+        AngleBracketedGenericArguments, AssocType, AttrStyle, Attribute, BoundLifetimes, ConstParam,
+        GenericArgument, GenericParam, Generics, ImplGenerics, Index, LifetimeParam, Lit, LitBool,
+        LitByte, LitByteStr, LitCStr, LitChar, LitFloat, LitInt, LitStr, LitToken, LiteralKind,
         MacroDelimiter, Member, Meta, MetaList, MetaNameValue, ParenthesizedGenericArguments, Path,
-        PathArguments, PathSegment, PredicateLifetime, PredicateType, QSelf, ReturnType,
-        TraitBound, TraitBoundModifier, Type, TypeArray, TypeGroup, TypeNever, TypeParam,
+        PathArguments, PathSegment, PredicateLifetime, PredicateType, QSelf, ReturnType, TraitBound,
+        TraitBoundModifier, Type, TypeArray, TypeGenerics, TypeGroup, TypeNever, TypeParam,
         TypeParamBound, TypeParen, TypePath, TypePtr, TypeReference, TypeSlice, TypeTuple,
         WhereClause, WherePredicate,
     };

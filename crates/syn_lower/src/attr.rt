@@ -8,8 +8,8 @@ ghost use Rattle.syn_tokens.specs.Spans.{at};
 ghost use Rattle.syn_lower.specs.Parsing.{parse_rule, Computes, IsSyntax};
 ghost use Rattle.syn_lower.specs.Attributes.{all_attributes_syntax, all_row, attributes_syntax, filled, none_listed, outer_part, outer_row, syntax_of_AttrStyle, syntax_of_MacroDelimiter};
 
+mod access;
 mod bodies;
-mod meta;
 mod nested;
 mod parsing;
 
