@@ -22,14 +22,12 @@ use syn_tokens::token::Where;
 
 /// The parameters as they follow `impl`: with attributes and bounds but without defaults, lifetimes first, in `< >`. It prints
 /// nothing if there are no parameters.
-#[derive(Clone, Copy)]
 pub struct ImplGenerics<'a> {
     generics: &'a Generics,
 }
 
 /// The parameters as they follow the name of the type: their names, lifetimes first, in `< >`. It prints nothing if there are no
 /// parameters.
-#[derive(Clone, Copy)]
 pub struct TypeGenerics<'a> {
     generics: &'a Generics,
 }

@@ -51,16 +51,18 @@ impl<'a> ParseBuffer<'a> {
         ensures moved { Takes 1 self.old result self.new }
         ensures fault { IfErr result (λ r. IsSyntax r → RefusedNext self.old (codes "expected group") r) }
     {
-        match self.tokens.split() {
-            Some((TokenTreeRef::Group(group), rest)) => {
+        let Some((next, rest)) = self.tokens.split() else {
+            return Err(self.refusal("expected group"));
+        };
+        match &next {
+            TokenTreeRef::Group(group) => {
                 let group = group.to_group(self.alloc)?;
                 self.tokens = rest;
                 Ok(group)
             }
-            Some((TokenTreeRef::Ident(_), _)) => Err(self.refusal("expected group")),
-            Some((TokenTreeRef::Literal(_), _)) => Err(self.refusal("expected group")),
-            Some((TokenTreeRef::Punct(_), _)) => Err(self.refusal("expected group")),
-            None => Err(self.refusal("expected group")),
+            TokenTreeRef::Ident(_) => Err(self.refusal("expected group")),
+            TokenTreeRef::Literal(_) => Err(self.refusal("expected group")),
+            TokenTreeRef::Punct(_) => Err(self.refusal("expected group")),
         }
     }
 

@@ -22,12 +22,12 @@ enum Stop<'a> {
     At(&'a str),
 }
 
-impl From<AllocError> for Stop<'_> {
+impl<'a> From<AllocError> for Stop<'a> {
     ghost use Rattle.syn_tokens.specs.declared.literal.values.Stop.TheVariants.{Memory};
 
     ghost from_gives = { λ e stop. stop ≡ Memory e };
 
-    fn from(error: AllocError) -> Stop<'_> {
+    fn from(error: AllocError) -> Stop<'a> {
         Stop::Memory(error)
     }
 }
