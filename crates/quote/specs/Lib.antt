@@ -1,0 +1,4 @@
+pub mod Holes
+pub mod Quotes
+pub mod Repeats
+pub mod Sides

@@ -1,0 +1,189 @@
+//! Looking for the holes of templates.
+ghost use Rattle.std.specs.Prelude.{◌≡◌, ◌≤◌, ◌+◌, ℕ, length, drop, suc};
+ghost use Rattle.syn_grammar.specs.Tokens as grammar;
+ghost use Rattle.syn_entries.specs.Placed.{token_at, tokens_at};
+ghost use Rattle.quote.specs.Holes as holes;
+ghost use Rattle.quote.specs.Holes.{begins_with, content_len, place_of, repetition_in, star_after};
+ghost use Rattle.quote.specs.Sides.{second, side, least, parts_of};
+
+use syn_tokens::delimiter::Delimiter;
+use syn_tokens::stream::entry::{Entry, Token};
+
+/// The kinds of holes, by what follows their `#`.
+#[derive(Clone, Copy)]
+pub(super) enum Hole {
+    /// `#name`
+    Name,
+    /// `#( .. )*`
+    Repetition,
+}
+
+/// Whether an entry is the delimiter of a group.
+#[derive(Clone, Copy)]
+enum Side {
+    Opening,
+    Closing,
+    /// A token.
+    Neither,
+}
+
+/// The entries of a template with a repetition: `before #( content ) separator * after`.
+pub(super) struct Parts<'a> {
+    pub(super) before: &'a [Entry],
+    pub(super) content: &'a [Entry],
+    pub(super) separator: &'a [Entry],
+    pub(super) after: &'a [Entry],
+}
+
+/// All entries but the first so many; none if there are no more.
+pub(super) fn skip(entries: &[Entry], count: usize) -> &[Entry]
+    ensures { result.now ≡ drop count entries.now }
+{
+    let count = count.min(entries.len());
+    &entries[count..]
+}
+
+/// Whether it is this character of a mark.
+fn is_mark(entry: &Entry, character: char) -> bool
+    ensures { (s : grammar.Span) → result ≡ holes.is_mark character (token_at s entry.now) }
+{
+    match entry.token() {
+        Token::Punct(punct) => punct.character() == character,
+        Token::Ident(_) | Token::Literal(_) | Token::Open(_) | Token::Close(_) => false,
+    }
+}
+
+/// Whether it is an identifier.
+fn is_name(entry: &Entry) -> bool
+    ensures { (s : grammar.Span) → result ≡ holes.is_name (token_at s entry.now) }
+{
+    match entry.token() {
+        Token::Ident(_) => true,
+        Token::Literal(_) | Token::Punct(_) | Token::Open(_) | Token::Close(_) => false,
+    }
+}
+
+/// Whether it is an opening parenthesis.
+fn is_paren(entry: &Entry) -> bool
+    ensures { (s : grammar.Span) → result ≡ holes.is_paren (token_at s entry.now) }
+{
+    match entry.token() {
+        Token::Open(open) => match open.delimiter {
+            Delimiter::Paren => true,
+            Delimiter::Brace => false,
+            Delimiter::Bracket => false,
+            Delimiter::None => false,
+        },
+        Token::Ident(_) | Token::Literal(_) | Token::Punct(_) | Token::Close(_) => false,
+    }
+}
+
+/// Whether it may follow the `#` of such a hole.
+fn is_second(hole: Hole, entry: &Entry) -> bool
+    ensures { (s : grammar.Span) → result ≡ second hole (token_at s entry.now) }
+{
+    match hole {
+        Hole::Name => is_name(entry),
+        Hole::Repetition => is_paren(entry),
+    }
+}
+
+/// Whether the entries begin with such a hole.
+fn begins(hole: Hole, entries: &[Entry]) -> bool
+    ensures { (s : grammar.Span) → result ≡ begins_with (second hole) (tokens_at s entries.now) }
+{
+    match entries {
+        [first, next, ..] => is_mark(first, '#') && is_second(hole, next),
+        _ => false,
+    }
+}
+
+/// The index of the first such hole; the number of entries if there is none.
+pub(super) fn hole_index(entries: &[Entry], hole: Hole) -> usize
+    ensures place { (s : grammar.Span) → result ≡ place_of (begins_with (second hole)) (tokens_at s entries.now) }
+    ensures within { result ≤ length entries.now }
+{
+    for place in 0..entries.len() {
+        if begins(hole, &entries[place..]) {
+            return place;
+        }
+    }
+    entries.len()
+}
+
+/// Which side of a group it is the delimiter of.
+fn side_of(entry: &Entry) -> Side
+    ensures { (s : grammar.Span) → result ≡ side (token_at s entry.now) }
+{
+    match entry.token() {
+        Token::Open(_) => Side::Opening,
+        Token::Close(_) => Side::Closing,
+        Token::Ident(_) | Token::Literal(_) | Token::Punct(_) => Side::Neither,
+    }
+}
+
+/// The number of entries before the delimiter that closes the group around them; of all entries if there is none.
+fn group_len(entries: &[Entry]) -> usize
+    ensures place { (s : grammar.Span) → result ≡ content_len 0 (tokens_at s entries.now) }
+    ensures within { result ≤ length entries.now }
+{
+    let mut depth: usize = 0;
+    for (place, entry) in entries.iter().enumerate() {
+        match side_of(entry) {
+            Side::Opening => depth += 1,
+            Side::Closing => {
+                if depth == 0 {
+                    return place;
+                }
+                depth -= 1;
+            }
+            Side::Neither => {}
+        }
+    }
+    entries.len()
+}
+
+/// The index of the first `*` before any delimiter, at least 1 if it is after a separator.
+fn star_index(entries: &[Entry], is_separated: bool) -> Option<usize>
+    ensures { (s : grammar.Span) → result ≡ star_after (least is_separated) (tokens_at s entries.now) }
+{
+    let mut least: usize = if is_separated { 1 } else { 0 };
+    for (place, entry) in entries.iter().enumerate() {
+        match side_of(entry) {
+            Side::Opening => return None,
+            Side::Closing => return None,
+            Side::Neither => {}
+        }
+        if least == 0 && is_mark(entry, '*') {
+            return Some(place);
+        }
+        least = least.saturating_sub(1);
+    }
+    None
+}
+
+/// Takes a template apart at its first repetition, which has a separator or none.
+pub(super) fn split_repetition(entries: &[Entry], is_separated: bool) -> Parts<'_>
+    ensures { (s : grammar.Span) → parts_of s result ≡ repetition_in is_separated (tokens_at s entries.now) }
+{
+    let place = hole_index(entries, Hole::Repetition);
+    let before = &entries[..place];
+    let inside = skip(entries, place.saturating_add(2));
+    let count = group_len(inside);
+    let content = &inside[..count];
+    let following = skip(inside, count.saturating_add(1));
+    match star_index(following, is_separated) {
+        Some(star) => Parts {
+            before,
+            content,
+            separator: &following[..star],
+            after: skip(following, star.saturating_add(1)),
+        },
+        None => Parts {
+            before,
+            content,
+            separator: &[],
+            after: following,
+        },
+    }
+}

@@ -1,0 +1,66 @@
+//! Writing the tokens of templates.
+ghost use Rattle.std.specs.Prelude.{◌≡◌, ◌∷◌, [], ◌++◌, OnOk};
+ghost use Rattle.syn_grammar.specs.Grammar.{print};
+ghost use Rattle.syn_reader.specs.Flat.{flat};
+ghost use Rattle.syn_tokens.specs.Spans.{at};
+ghost use Rattle.syn_entries.specs.Balance.{AllFollow, Follows, open_after, open_after_all, open_in, tokens_in};
+ghost use Rattle.syn_entries.specs.Placed.{token_at, tokens_at};
+ghost use Rattle.quote.specs.Holes.{apart};
+
+use std::alloc::AllocError;
+use syn_entries::entries::{add_entry, add_mark};
+use syn_tokens::print::ToTokens;
+use syn_tokens::punct::Spacing;
+use syn_tokens::span::Span;
+use syn_tokens::stream::builder::StreamBuilder;
+use syn_tokens::stream::entry::{Entry, Token};
+
+/// Appends copies of a template's entries, all at this span. If the last one is a character of a mark, it is Alone: what follows it
+/// is not the template's.
+pub(super) fn write(
+    entries: &[Entry],
+    span: Span,
+    out: &mut StreamBuilder,
+) -> Result<(), AllocError>
+    requires { AllFollow (open_in out.old) (tokens_at (at span) entries.now) }
+    ensures tokens { OnOk result (tokens_in out.new ≡ tokens_in out.old ++ apart (tokens_at (at span) entries.now)) }
+    ensures groups { OnOk result (open_in out.new ≡ open_after_all (open_in out.old) (tokens_at (at span) entries.now)) }
+{
+    let Some((last, others)) = entries.split_last() else {
+        return Ok(());
+    };
+    for entry in others {
+        add_entry(entry, span, out)?;
+    }
+    add_last(last, span, out)
+}
+
+/// Appends a copy of an entry. A character of a mark is Alone.
+fn add_last(entry: &Entry, span: Span, out: &mut StreamBuilder) -> Result<(), AllocError>
+    requires { Follows (open_in out.old) (token_at (at span) entry.now) }
+    ensures tokens { OnOk result (tokens_in out.new ≡ tokens_in out.old ++ apart (token_at (at span) entry.now ∷ [])) }
+    ensures groups { OnOk result (open_in out.new ≡ open_after (open_in out.old) (token_at (at span) entry.now)) }
+{
+    match entry.token() {
+        Token::Punct(punct) => add_mark(punct.character(), Spacing::Alone, span, out),
+        Token::Ident(_) | Token::Literal(_) | Token::Open(_) | Token::Close(_) => {
+            add_entry(entry, span, out)
+        }
+    }
+}
+
+/// Appends the entries before a hole, and the tokens of the tree in its place.
+#[tactic(auto, using(syn_entries::proofs::Built::added_tokens, syn_entries::proofs::Built::added_groups))]
+pub(super) fn write_with<T: ToTokens>(
+    before: &[Entry],
+    span: Span,
+    tree: &T,
+    out: &mut StreamBuilder,
+) -> Result<(), AllocError>
+    requires { AllFollow (open_in out.old) (tokens_at (at span) before.now) }
+    ensures tokens { OnOk result (tokens_in out.new ≡ tokens_in out.old ++ (apart (tokens_at (at span) before.now) ++ flat (print (T.syntax tree.now)))) }
+    ensures groups { OnOk result (open_in out.new ≡ open_after_all (open_in out.old) (tokens_at (at span) before.now)) }
+{
+    write(before, span, out)?;
+    tree.print_in(out)
+}

@@ -1,0 +1,3 @@
+pub mod Balanced
+pub mod Built
+pub mod Placed
