@@ -1,0 +1,7 @@
+//! Tests with ample memory.
+mod calls;
+mod holes;
+mod lists;
+mod repetitions;
+mod support;
+mod templates;

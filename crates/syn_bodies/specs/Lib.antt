@@ -1,0 +1,3 @@
+pub mod PutBack
+pub mod States
+pub mod Walks

@@ -1,0 +1,4 @@
+//! Tests with ample memory.
+mod lines;
+mod programs;
+mod reports;
