@@ -1,3 +1,2 @@
 pub mod PutBack
 pub mod States
-pub mod Walks

@@ -7,4 +7,4 @@ mod state;
 pub mod walk;
 
 pub use bodies::{Bodies, Part, without_bodies};
-pub use walk::{ItemVisitor, Walked, walk_items};
+pub use walk::{ItemVisitor, Walked, walk_items, walk_items_with};

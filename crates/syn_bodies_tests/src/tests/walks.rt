@@ -5,7 +5,7 @@ use std::process::Abort;
 use std::test::Fail;
 use syn::reader::read_tokens;
 use syn::{Error, File, ForeignItem, Ident, ImplItem, Item, TraitItem, parse2};
-use syn_bodies::{ItemVisitor, Walked, walk_items, without_bodies};
+use syn_bodies::{ItemVisitor, Walked, walk_items, walk_items_with, without_bodies};
 
 /// What was visited: a word for each item and member, after the modules around it.
 #[derive(Drop)]
@@ -14,7 +14,7 @@ struct Words {
 }
 
 impl ItemVisitor for Words {
-    fn visit(&mut self, walked: Walked<'_>, modules: &[Ident]) -> syn::Result<()> {
+    fn visit(&mut self, walked: &Walked<'_>, modules: &[Ident]) -> syn::Result<()> {
         if !self.text.is_empty() {
             self.text.push(' ')?;
         }
@@ -62,7 +62,7 @@ fn words(alloc: Global, text: &str) -> syn::Result<String> {
     let mut words = Words {
         text: String::new(alloc),
     };
-    walk_items(&file, &mut words, alloc)?;
+    walk_items(&file, alloc, |walked, modules| words.visit(walked, modules))?;
     let Words { text } = words;
     Ok(text)
 }
@@ -125,7 +125,7 @@ struct Few {
 }
 
 impl ItemVisitor for Few {
-    fn visit(&mut self, walked: Walked<'_>, _modules: &[Ident]) -> syn::Result<()> {
+    fn visit(&mut self, walked: &Walked<'_>, _modules: &[Ident]) -> syn::Result<()> {
         if self.count == 1 {
             if let Walked::Item(Item::Fn(item)) = walked {
                 return Err(Error::new(item.sig.ident.span, "enough"));
@@ -140,7 +140,7 @@ impl ItemVisitor for Few {
 fn stopped(rt: HostRuntime) -> Result<(), Fail> {
     let file: File = parse2(read_tokens(rt.alloc(), "struct A; fn b() {} struct C;")?)?;
     let mut few = Few { count: 0 };
-    match walk_items(&file, &mut few, rt.alloc()) {
+    match walk_items_with(&file, rt.alloc(), &mut few) {
         Ok(()) => assert!(rt; false, "the walk goes on"),
         Err(error) => assert_eq!(rt; error.span().start, 13),
     }
