@@ -12,7 +12,7 @@ from pathlib import Path
 
 TOP = Path(__file__).resolve().parent.parent
 # Words of each page written by hand, as `wc -w` counts them; the pages of docs/reference have no limit.
-LIMITS = {"README.md": 900, "CONTRIBUTING.md": 1500, "docs/DESIGN.md": 2650, "docs/GRAMMAR.md": 1200, "docs/DECISIONS.md": 2500,
+LIMITS = {"README.md": 900, "CONTRIBUTING.md": 1500, "docs/DESIGN.md": 2700, "docs/GRAMMAR.md": 1200, "docs/DECISIONS.md": 2500,
           "docs/DIFFERENCES.md": 2950, "docs/OWN_SYNTAX.md": 1000, "docs/PERFORMANCE.md": 700}
 # Pages whose text is written from the sources' comments, so that the words are theirs.
 WRITTEN = {"docs/reference/RULES.md"}

@@ -1,5 +1,5 @@
 -- The holes of a template, as tokens and delimiters one after another.
-use Rattle.std.specs.Prelude.{ℕ, zero, suc, pred, ◌+◌, Bool, true, false, ◌&&◌, List, [], ◌∷◌, take, drop, Option, Some, None, nat_eq, if◌then◌else◌}
+use Rattle.std.specs.Prelude.{ℕ, suc, ◌+◌, ◌-◌, Bool, true, false, ◌&&◌, List, [], ◌∷◌, take, drop, Option, Some, None, nat_eq, if◌then◌else◌}
 use Rattle.syn_grammar.specs.Tokens.{ident, literal, Paren}
 use Rattle.syn_grammar.specs.Take.{same_delimiter}
 use Rattle.syn_reader.specs.Flat.{Token, one, punctuation, opened, closed}
@@ -55,16 +55,31 @@ before hole ts = take (place_of hole ts) ts
 abbrev pub after : (List Token → Bool) → List Token → List Token
 after hole ts = drop (place_of hole ts + 2) ts
 
--- tokens that something else follows: if the last one is a character of a mark, it is Alone
+-- a token that something else follows: a character of a mark is Alone
+abbrev pub alone : Token → Token
+alone (one x s) = one x s
+alone (punctuation c j s) = punctuation c false s
+alone (opened d s) = opened d s
+alone (closed d s) = closed d s
+
+-- the last of these is
+abbrev pub apart_from : Token → List Token → List Token
+apart_from t [] = alone t ∷ []
+apart_from t (u ∷ ts) = t ∷ apart_from u ts
+
+-- tokens that something else follows
 abbrev pub apart : List Token → List Token
 apart [] = []
-apart (one x s ∷ []) = one x s ∷ []
-apart (punctuation c j s ∷ []) = punctuation c false s ∷ []
-apart (opened d s ∷ []) = opened d s ∷ []
-apart (closed d s ∷ []) = closed d s ∷ []
-apart (t ∷ u ∷ ts) = t ∷ apart (u ∷ ts)
+apart (t ∷ ts) = apart_from t ts
 
 -- REPETITIONS
+
+-- a delimiter of a group
+abbrev pub is_delimiter : Token → Bool
+is_delimiter (one x s) = false
+is_delimiter (punctuation c j s) = false
+is_delimiter (opened d s) = true
+is_delimiter (closed d s) = true
 
 -- the number of tokens before the delimiter that closes the innermost group, if so many more are open in it
 abbrev pub content_len : ℕ → List Token → ℕ
@@ -72,8 +87,7 @@ content_len n [] = 0
 content_len n (one x s ∷ ts) = suc (content_len n ts)
 content_len n (punctuation c j s ∷ ts) = suc (content_len n ts)
 content_len n (opened d s ∷ ts) = suc (content_len (suc n) ts)
-content_len zero (closed d s ∷ ts) = 0
-content_len (suc n) (closed d s ∷ ts) = suc (content_len n ts)
+content_len n (closed d s ∷ ts) = if nat_eq n 0 then 0 else suc (content_len (n - 1) ts)
 
 -- one after so many tokens
 abbrev pub further : Option ℕ → Option ℕ
@@ -83,11 +97,7 @@ further (Some k) = Some (suc k)
 -- the number of tokens before the first `*`, at least so many of them; none if a delimiter or the end comes first
 abbrev pub star_after : ℕ → List Token → Option ℕ
 star_after n [] = None
-star_after n (one x s ∷ ts) = further (star_after (pred n) ts)
-star_after zero (punctuation c j s ∷ ts) = if nat_eq c 42 then Some 0 else further (star_after 0 ts)
-star_after (suc n) (punctuation c j s ∷ ts) = further (star_after n ts)
-star_after n (opened d s ∷ ts) = None
-star_after n (closed d s ∷ ts) = None
+star_after n (t ∷ ts) = if is_delimiter t then None else (if nat_eq n 0 && is_mark 42 t then Some 0 else further (star_after (n - 1) ts))
 
 -- the parts of a template with a repetition: `before #( content ) separator * after`
 pub record Parts : Type 0 where

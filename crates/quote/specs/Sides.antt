@@ -1,5 +1,5 @@
 -- What the search for holes tells apart.
-use Rattle.std.specs.Prelude.{ℕ, Bool, List, if◌then◌else◌}
+use Rattle.std.specs.Prelude.{ℕ, ◌+◌, ◌-◌, Bool, true, false, List, if◌then◌else◌}
 use Rattle.syn_grammar.specs.Tokens.{Span}
 use Rattle.syn_reader.specs.Flat.{Token, one, punctuation, opened, closed}
 use Rattle.syn_entries.specs.Placed.{tokens_at}
@@ -21,6 +21,17 @@ side (one x s) = Neither
 side (punctuation c j s) = Neither
 side (opened d s) = Opening
 side (closed d s) = Closing
+
+abbrev pub is_closing : Side → Bool
+is_closing Opening = false
+is_closing Closing = true
+is_closing Neither = false
+
+-- how many groups are open after it
+abbrev pub depth_after : ℕ → Side → ℕ
+depth_after n Opening = n + 1
+depth_after n Closing = n - 1
+depth_after n Neither = n
 
 -- the number of tokens before the `*` of a repetition, at least
 abbrev pub least : Bool → ℕ

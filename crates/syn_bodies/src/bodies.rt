@@ -52,8 +52,10 @@ fn blank(tokens: &TokenStream) -> std::result::Result<Bodies, AllocError>
     ensures parts { IfOk result (λ b. put_back (flat b.stream) b.parts.items ≡ flat tokens.now) }
 {
     let mut reader = Reader::new(tokens.alloc());
-    for entry in tokens.entries() {
+    let mut rest = tokens.entries();
+    while let Some((entry, others)) = rest.split_first() {
         reader.read(entry)?;
+        rest = others;
     }
     reader.finish()
 }

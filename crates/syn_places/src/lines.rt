@@ -56,17 +56,18 @@ fn between(bytes: &[u8], start: usize, end: usize) -> &[u8]
     &bytes[start..end]
 }
 
+/// Whether a byte is the first of a character in UTF-8.
+fn begins_character(byte: u8) -> bool
+    ensures { result ≡ begins_character byte }
+{
+    byte < 128 || 192 <= byte
+}
+
 /// The number of characters that begin in these bytes.
 fn characters(bytes: &[u8]) -> usize
     ensures { result ≡ count_by begins_character bytes.now }
 {
-    let mut count: usize = 0;
-    for byte in bytes {
-        if *byte < 128 || *byte >= 192 {
-            count += 1;
-        }
-    }
-    count
+    bytes.iter().filter(|byte| begins_character(**byte)).count()
 }
 
 impl<'a> LineIndex<'a> {

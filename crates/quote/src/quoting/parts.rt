@@ -1,10 +1,10 @@
 //! Looking for the holes of templates.
-ghost use Rattle.std.specs.Prelude.{◌≡◌, ◌≤◌, ◌+◌, ℕ, length, drop, suc};
+ghost use Rattle.std.specs.Prelude.{◌≡◌, ◌≤◌, ◌<◌, ◌+◌, ◌^◌, length, drop};
 ghost use Rattle.syn_grammar.specs.Tokens as grammar;
 ghost use Rattle.syn_entries.specs.Placed.{token_at, tokens_at};
 ghost use Rattle.quote.specs.Holes as holes;
 ghost use Rattle.quote.specs.Holes.{begins_with, content_len, place_of, repetition_in, star_after};
-ghost use Rattle.quote.specs.Sides.{second, side, least, parts_of};
+ghost use Rattle.quote.specs.Sides.{second, side, is_closing, depth_after, least, parts_of};
 
 use syn_tokens::delimiter::Delimiter;
 use syn_tokens::stream::entry::{Entry, Token};
@@ -103,12 +103,16 @@ pub(super) fn hole_index(entries: &[Entry], hole: Hole) -> usize
     ensures place { (s : grammar.Span) → result ≡ place_of (begins_with (second hole)) (tokens_at s entries.now) }
     ensures within { result ≤ length entries.now }
 {
-    for place in 0..entries.len() {
-        if begins(hole, &entries[place..]) {
+    let mut rest = entries;
+    let mut place: usize = 0;
+    while let Some((_, others)) = rest.split_first() {
+        if begins(hole, rest) {
             return place;
         }
+        rest = others;
+        place += 1;
     }
-    entries.len()
+    place
 }
 
 /// Which side of a group it is the delimiter of.
@@ -127,39 +131,74 @@ fn group_len(entries: &[Entry]) -> usize
     ensures place { (s : grammar.Span) → result ≡ content_len 0 (tokens_at s entries.now) }
     ensures within { result ≤ length entries.now }
 {
+    let mut rest = entries;
     let mut depth: usize = 0;
-    for (place, entry) in entries.iter().enumerate() {
-        match side_of(entry) {
-            Side::Opening => depth += 1,
-            Side::Closing => {
-                if depth == 0 {
-                    return place;
-                }
-                depth -= 1;
-            }
-            Side::Neither => {}
+    let mut count: usize = 0;
+    while let Some((entry, others)) = rest.split_first() {
+        let side = side_of(entry);
+        if closes(side) && depth == 0 {
+            return count;
         }
+        depth = depth_after(depth, side);
+        rest = others;
+        count += 1;
     }
-    entries.len()
+    count
+}
+
+/// Whether it is a closing delimiter.
+fn closes(side: Side) -> bool
+    ensures { result ≡ is_closing side }
+{
+    match side {
+        Side::Opening => false,
+        Side::Closing => true,
+        Side::Neither => false,
+    }
+}
+
+/// How many groups are open after a delimiter or a token.
+fn depth_after(depth: usize, side: Side) -> usize
+    requires { depth + 1 < 2 ^ 64 }
+    ensures { result ≡ depth_after depth side }
+{
+    match side {
+        Side::Opening => depth + 1,
+        Side::Closing => depth.saturating_sub(1),
+        Side::Neither => depth,
+    }
 }
 
 /// The index of the first `*` before any delimiter, at least 1 if it is after a separator.
 fn star_index(entries: &[Entry], is_separated: bool) -> Option<usize>
     ensures { (s : grammar.Span) → result ≡ star_after (least is_separated) (tokens_at s entries.now) }
 {
+    let mut rest = entries;
     let mut least: usize = if is_separated { 1 } else { 0 };
-    for (place, entry) in entries.iter().enumerate() {
-        match side_of(entry) {
-            Side::Opening => return None,
-            Side::Closing => return None,
-            Side::Neither => {}
+    let mut place: usize = 0;
+    while let Some((entry, others)) = rest.split_first() {
+        if is_delimiter(entry) {
+            return None;
         }
         if least == 0 && is_mark(entry, '*') {
             return Some(place);
         }
         least = least.saturating_sub(1);
+        rest = others;
+        place += 1;
     }
     None
+}
+
+/// Whether it is a delimiter of a group.
+fn is_delimiter(entry: &Entry) -> bool
+    ensures { (s : grammar.Span) → result ≡ holes.is_delimiter (token_at s entry.now) }
+{
+    match entry.token() {
+        Token::Open(_) => true,
+        Token::Close(_) => true,
+        Token::Ident(_) | Token::Literal(_) | Token::Punct(_) => false,
+    }
 }
 
 /// Takes a template apart at its first repetition, which has a separator or none.

@@ -26,13 +26,16 @@ pub(super) fn write(
     ensures tokens { OnOk result (tokens_in out.new ≡ tokens_in out.old ++ apart (tokens_at (at span) entries.now)) }
     ensures groups { OnOk result (open_in out.new ≡ open_after_all (open_in out.old) (tokens_at (at span) entries.now)) }
 {
-    let Some((last, others)) = entries.split_last() else {
-        return Ok(());
-    };
-    for entry in others {
-        add_entry(entry, span, out)?;
+    let mut rest = entries;
+    while let Some((entry, others)) = rest.split_first() {
+        if others.is_empty() {
+            add_last(entry, span, out)?;
+        } else {
+            add_entry(entry, span, out)?;
+        }
+        rest = others;
     }
-    add_last(last, span, out)
+    Ok(())
 }
 
 /// Appends a copy of an entry. A character of a mark is Alone.
