@@ -1,5 +1,5 @@
 -- The holes of a template, as tokens and delimiters one after another.
-use Rattle.std.specs.Prelude.{ℕ, suc, ◌+◌, ◌-◌, Bool, true, false, ◌&&◌, List, [], ◌∷◌, take, drop, Option, Some, None, nat_eq, if◌then◌else◌}
+use Rattle.std.specs.Prelude.{ℕ, ◌+◌, ◌-◌, Bool, true, false, ◌&&◌, List, [], ◌∷◌, drop, Option, Some, None, nat_eq, if◌then◌else◌}
 use Rattle.syn_grammar.specs.Tokens.{ident, literal, Paren}
 use Rattle.syn_grammar.specs.Take.{same_delimiter}
 use Rattle.syn_reader.specs.Flat.{Token, one, punctuation, opened, closed}
@@ -32,7 +32,7 @@ is_paren (closed d s) = false
 abbrev pub begins_with : (Token → Bool) → List Token → Bool
 begins_with test [] = false
 begins_with test (t ∷ []) = false
-begins_with test (t ∷ u ∷ ts) = is_mark 35 t && test u
+begins_with test (t ∷ u ∷ ts) = test u && is_mark 35 t
 
 -- `#name`
 abbrev pub name : List Token → Bool
@@ -42,18 +42,15 @@ name ts = begins_with is_name ts
 abbrev pub repeated : List Token → Bool
 repeated ts = begins_with is_paren ts
 
--- the number of tokens before the first hole of a kind; of all tokens if there is none
-abbrev pub place_of : (List Token → Bool) → List Token → ℕ
-place_of hole [] = 0
-place_of hole (t ∷ ts) = if hole (t ∷ ts) then 0 else suc (place_of hole ts)
-
--- the tokens before it
+-- the tokens before the first hole of a kind; all if there is none
 abbrev pub before : (List Token → Bool) → List Token → List Token
-before hole ts = take (place_of hole ts) ts
+before hole [] = []
+before hole (t ∷ ts) = if hole (t ∷ ts) then [] else t ∷ before hole ts
 
--- those after its two tokens
+-- those after its two tokens; none if there is none
 abbrev pub after : (List Token → Bool) → List Token → List Token
-after hole ts = drop (place_of hole ts + 2) ts
+after hole [] = []
+after hole (t ∷ ts) = if hole (t ∷ ts) then drop 2 (t ∷ ts) else after hole ts
 
 -- a token that something else follows: a character of a mark is Alone
 abbrev pub alone : Token → Token
@@ -81,23 +78,42 @@ is_delimiter (punctuation c j s) = false
 is_delimiter (opened d s) = true
 is_delimiter (closed d s) = true
 
--- the number of tokens before the delimiter that closes the innermost group, if so many more are open in it
-abbrev pub content_len : ℕ → List Token → ℕ
-content_len n [] = 0
-content_len n (one x s ∷ ts) = suc (content_len n ts)
-content_len n (punctuation c j s ∷ ts) = suc (content_len n ts)
-content_len n (opened d s ∷ ts) = suc (content_len (suc n) ts)
-content_len n (closed d s ∷ ts) = if nat_eq n 0 then 0 else suc (content_len (n - 1) ts)
+abbrev pub is_closing : Token → Bool
+is_closing (one x s) = false
+is_closing (punctuation c j s) = false
+is_closing (opened d s) = false
+is_closing (closed d s) = true
 
--- one after so many tokens
-abbrev pub further : Option ℕ → Option ℕ
-further None = None
-further (Some k) = Some (suc k)
+-- how many groups are open after a token or a delimiter
+abbrev pub depth_after : ℕ → Token → ℕ
+depth_after n (one x s) = n
+depth_after n (punctuation c j s) = n
+depth_after n (opened d s) = n + 1
+depth_after n (closed d s) = n - 1
 
--- the number of tokens before the first `*`, at least so many of them; none if a delimiter or the end comes first
-abbrev pub star_after : ℕ → List Token → Option ℕ
-star_after n [] = None
-star_after n (t ∷ ts) = if is_delimiter t then None else (if nat_eq n 0 && is_mark 42 t then Some 0 else further (star_after (n - 1) ts))
+-- the delimiter that closes the innermost group, if so many more are open in it
+abbrev pub is_last : ℕ → Token → Bool
+is_last n t = is_closing t && nat_eq n 0
+
+-- the tokens before that delimiter; all if there is none
+abbrev pub inside : ℕ → List Token → List Token
+inside n [] = []
+inside n (t ∷ ts) = if is_last n t then [] else t ∷ inside (depth_after n t) ts
+
+-- those after it; none if there is none
+abbrev pub outside : ℕ → List Token → List Token
+outside n [] = []
+outside n (t ∷ ts) = if is_last n t then ts else outside (depth_after n t) ts
+
+-- the tokens before and after a `*`, with one more before it
+abbrev pub with_first : Token → Option (List Token × List Token) → Option (List Token × List Token)
+with_first t None = None
+with_first t (Some p) = Some (t ∷ p.0, p.1)
+
+-- the tokens before and after the first `*`, at least so many before it; none if a delimiter or the end comes first
+abbrev pub star : ℕ → List Token → Option (List Token × List Token)
+star n [] = None
+star n (t ∷ ts) = if is_delimiter t then None else (if is_mark 42 t && nat_eq n 0 then Some ([], ts) else with_first t (star (n - 1) ts))
 
 -- the parts of a template with a repetition: `before #( content ) separator * after`
 pub record Parts : Type 0 where
@@ -106,14 +122,13 @@ pub record Parts : Type 0 where
   pub separator : List Token
   pub after : List Token
 
-abbrev pub parts_at : List Token → List Token → List Token → Option ℕ → Parts
+abbrev pub parts_at : List Token → List Token → List Token → Option (List Token × List Token) → Parts
 parts_at b c ts None = record { before = b; content = c; separator = []; after = ts }
-parts_at b c ts (Some k) = record { before = b; content = c; separator = take k ts; after = drop (suc k) ts }
+parts_at b c ts (Some p) = record { before = b; content = c; separator = p.0; after = p.1 }
 
 -- those of the first repetition, with or without a separator
 abbrev pub repetition_in : Bool → List Token → Parts
 repetition_in is_separated ts =
-    let inside = after repeated ts in
-    let n = content_len 0 inside in
-    let following = drop (suc n) inside in
-    parts_at (before repeated ts) (take n inside) following (star_after (if is_separated then 1 else 0) following)
+    let group = after repeated ts in
+    let following = outside 0 group in
+    parts_at (before repeated ts) (inside 0 group) following (star (if is_separated then 1 else 0) following)

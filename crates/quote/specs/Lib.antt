@@ -1,4 +1,4 @@
 pub mod Holes
 pub mod Quotes
 pub mod Repeats
-pub mod Sides
+pub mod HoleKinds

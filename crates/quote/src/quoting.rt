@@ -12,7 +12,7 @@ ghost use Rattle.syn_entries.specs.Placed.{all_placed, tokens_at};
 ghost use Rattle.quote.specs.Holes.{apart, name, before, after, repetition_in};
 ghost use Rattle.quote.specs.Quotes.{adds, joins};
 
-use crate::quoting::parts::{Hole, hole_index, skip, split_repetition};
+use crate::quoting::parts::{Hole, split_hole, split_repetition};
 use crate::quoting::repetition::Repetition;
 use crate::quoting::write::{write, write_with};
 use std::alloc::{AllocError, Global};
@@ -112,9 +112,8 @@ impl<'a> Quoting<'a> {
         ensures left { self.new.left ≡ after name self.old.left }
         ensures written { OnSome self.new.written (self.new.written ≡ adds self.old.written (apart (before name self.old.left) ++ flat (print (T.syntax tree.now)))) }
     {
-        let place = hole_index(self.left, Hole::Name);
-        let before = &self.left[..place];
-        self.left = skip(self.left, place.saturating_add(2));
+        let (before, after) = split_hole(self.left, Hole::Name);
+        self.left = after;
         if self.refused.is_none() {
             match write_with(before, self.span, tree, &mut self.out) {
                 Ok(()) => {}
