@@ -106,7 +106,8 @@ pub(crate) fn derive_describe(mut input: DeriveInput, alloc: Global) -> syn::Res
                 let ident = &variant.ident;
                 let label = name_of(&options_of(&variant.attrs)?, ident, alloc)?;
                 let (pattern, statements) = fields_of(&variant.fields, alloc)?;
-                let arm = quote!(in alloc; #name::#ident #pattern => { out.variant(#label); #(#statements)* })?;
+                let arm =
+                    quote!(in alloc; #name::#ident #pattern => { out.variant(#label); #(#statements)* })?;
                 arms.push(arm)?;
             }
         }

@@ -49,15 +49,15 @@ abbrev pub inside : Place → State
 inside p = record { place = p; depth = 1 }
 
 abbrev pub no_angles : Angles
-no_angles = record { open = 0; is_arrow = false }
+no_angles = record { count = 0; is_arrow = false }
 
 -- `<` opens one, and `>` closes one unless it is that of `->` or `=>`
 abbrev pub after_angles : Angles → Kind → Angles
-after_angles a K.Less = record { open = a.open + 1; is_arrow = false }
-after_angles a K.Greater = record { open = if a.is_arrow then a.open else a.open - 1; is_arrow = false }
-after_angles a K.Minus = record { open = a.open; is_arrow = true }
-after_angles a K.Equals = record { open = a.open; is_arrow = true }
-after_angles a _ = record { open = a.open; is_arrow = false }
+after_angles a K.Less = record { count = a.count + 1; is_arrow = false }
+after_angles a K.Greater = record { count = if a.is_arrow then a.count else a.count - 1; is_arrow = false }
+after_angles a K.Minus = record { count = a.count; is_arrow = true }
+after_angles a K.Equals = record { count = a.count; is_arrow = true }
+after_angles a _ = record { count = a.count; is_arrow = false }
 
 -- where an item may begin; not a constant, if a mark is right before
 abbrev pub after_plain : Bool → Kind → State
@@ -100,7 +100,7 @@ after_fn k = after_plain false k
 abbrev pub after_head : Angles → Kind → State
 after_head a K.Semi = outside P.Plain
 after_head a K.Close = outside P.Plain
-after_head a K.Brace = inside (if nat_eq a.open 0 then P.Body else P.Head a)
+after_head a K.Brace = inside (if nat_eq a.count 0 then P.Body else P.Head a)
 after_head a K.Open = inside (P.Head a)
 after_head a k = outside (P.Head (after_angles a k))
 
@@ -113,9 +113,9 @@ after_const k = after_plain false k
 abbrev pub after_type : Angles → Kind → State
 after_type a K.Semi = outside P.Plain
 after_type a K.Close = outside P.Plain
-after_type a K.Brace = if nat_eq a.open 0 then outside P.Plain else inside (P.Type a)
+after_type a K.Brace = if nat_eq a.count 0 then outside P.Plain else inside (P.Type a)
 after_type a K.Open = inside (P.Type a)
-after_type a K.Equals = outside (if nat_eq a.open 0 then P.Equals else P.Type (after_angles a K.Equals))
+after_type a K.Equals = outside (if nat_eq a.count 0 then P.Equals else P.Type (after_angles a K.Equals))
 after_type a k = outside (P.Type (after_angles a k))
 
 -- a value ends at a `;`, or with the group or the stream that it is in
@@ -128,8 +128,8 @@ after_value k = outside P.Value
 
 -- so few `<` are open that one more can be counted
 abbrev pub FitsPlace : Place → Type 0
-FitsPlace (P.Head a) = a.open + 1 < 2 ^ 64
-FitsPlace (P.Type a) = a.open + 1 < 2 ^ 64
+FitsPlace (P.Head a) = a.count + 1 < 2 ^ 64
+FitsPlace (P.Type a) = a.count + 1 < 2 ^ 64
 FitsPlace _ = Unit {0}
 
 abbrev pub after_outside : Place → Kind → State
@@ -149,8 +149,8 @@ after_outside P.Value k = after_value k
 -- after a group that was passed
 abbrev pub after_group : Place → Place
 after_group (P.Pound is_after_mark) = if is_after_mark then P.Mark else P.Plain
-after_group (P.Head a) = P.Head (record { open = a.open; is_arrow = false })
-after_group (P.Type a) = P.Type (record { open = a.open; is_arrow = false })
+after_group (P.Head a) = P.Head (record { count = a.count; is_arrow = false })
+after_group (P.Type a) = P.Type (record { count = a.count; is_arrow = false })
 after_group P.Value = P.Value
 after_group _ = P.Plain
 

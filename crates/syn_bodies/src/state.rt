@@ -41,7 +41,7 @@ pub(crate) enum Kind {
 /// a `>` is an arrow.
 #[derive(Clone, Copy)]
 pub(crate) struct Angles {
-    pub(crate) open: usize,
+    pub(crate) count: usize,
     pub(crate) is_arrow: bool,
 }
 
@@ -153,26 +153,30 @@ pub(crate) fn kind_of(entry: &Entry) -> Kind
 impl Angles {
     /// None is open.
     fn none() -> Angles
-        ensures { result ≡ record { open = 0; is_arrow = false } }
+        ensures { result ≡ record { count = 0; is_arrow = false } }
     {
         Angles {
-            open: 0,
+            count: 0,
             is_arrow: false,
         }
     }
 
     /// After a token.
     fn after(self, kind: Kind) -> Angles
-        requires { self.open + 1 < 2 ^ 64 }
+        requires { self.count + 1 < 2 ^ 64 }
         ensures { result ≡ after_angles self kind }
     {
-        let open = match kind {
-            Kind::Less => self.open + 1,
-            Kind::Greater => if self.is_arrow { self.open } else { self.open.saturating_sub(1) },
-            _ => self.open,
+        let count = match kind {
+            Kind::Less => self.count + 1,
+            Kind::Greater => if self.is_arrow {
+                self.count
+            } else {
+                self.count.saturating_sub(1)
+            },
+            _ => self.count,
         };
         let is_arrow = matches!(kind, Kind::Minus | Kind::Equals);
-        Angles { open, is_arrow }
+        Angles { count, is_arrow }
     }
 }
 
@@ -196,7 +200,11 @@ fn after_plain(is_after_mark: bool, kind: Kind) -> State
 {
     let place = match kind {
         Kind::Fn => Place::Fn,
-        Kind::Const => if is_after_mark { Place::Plain } else { Place::Const },
+        Kind::Const => if is_after_mark {
+            Place::Plain
+        } else {
+            Place::Const
+        },
         Kind::Pound => Place::Pound(is_after_mark),
         Kind::Bang => Place::Bang,
         Kind::Less | Kind::Greater | Kind::Minus | Kind::Equals | Kind::Mark => Place::Mark,
@@ -211,13 +219,17 @@ fn after_group(place: Place) -> Place
     ensures { result ≡ after_group place }
 {
     match place {
-        Place::Pound(is_after_mark) => if is_after_mark { Place::Mark } else { Place::Plain },
+        Place::Pound(is_after_mark) => if is_after_mark {
+            Place::Mark
+        } else {
+            Place::Plain
+        },
         Place::Head(angles) => Place::Head(Angles {
-            open: angles.open,
+            count: angles.count,
             is_arrow: false,
         }),
         Place::Type(angles) => Place::Type(Angles {
-            open: angles.open,
+            count: angles.count,
             is_arrow: false,
         }),
         Place::Value => Place::Value,
@@ -270,13 +282,13 @@ fn after_fn(kind: Kind) -> State
 
 /// After a token in the head of a function.
 fn after_head(angles: Angles, kind: Kind) -> State
-    requires { angles.open + 1 < 2 ^ 64 }
+    requires { angles.count + 1 < 2 ^ 64 }
     ensures { result ≡ after_head angles kind }
 {
     match kind {
         Kind::Semi | Kind::Close => outside(Place::Plain),
         Kind::Brace => {
-            if angles.open == 0 {
+            if angles.count == 0 {
                 inside(Place::Body)
             } else {
                 inside(Place::Head(angles))
@@ -300,13 +312,13 @@ fn after_const(kind: Kind) -> State
 
 /// After a token in the type of a constant.
 fn after_type(angles: Angles, kind: Kind) -> State
-    requires { angles.open + 1 < 2 ^ 64 }
+    requires { angles.count + 1 < 2 ^ 64 }
     ensures { result ≡ after_type angles kind }
 {
     match kind {
         Kind::Semi | Kind::Close => outside(Place::Plain),
         Kind::Brace => {
-            if angles.open == 0 {
+            if angles.count == 0 {
                 outside(Place::Plain)
             } else {
                 inside(Place::Type(angles))
@@ -314,7 +326,7 @@ fn after_type(angles: Angles, kind: Kind) -> State
         }
         Kind::Open => inside(Place::Type(angles)),
         Kind::Equals => {
-            if angles.open == 0 {
+            if angles.count == 0 {
                 outside(Place::Equals)
             } else {
                 outside(Place::Type(angles.after(kind)))

@@ -49,11 +49,7 @@ pub fn walk_items<R: Answer<Error, Node = ()>, F: FnMut(&Walked<'_>, &[Ident]) -
 }
 
 /// The same by a value that visits each item.
-pub fn walk_items_with<V: ItemVisitor>(
-    file: &File,
-    alloc: Global,
-    visitor: &mut V,
-) -> Result<()> {
+pub fn walk_items_with<V: ItemVisitor>(file: &File, alloc: Global, visitor: &mut V) -> Result<()> {
     let mut modules = Vec::new(alloc);
     walk(&file.items, &mut modules, DEPTH, alloc, visitor)
 }

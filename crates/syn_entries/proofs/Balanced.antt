@@ -34,9 +34,11 @@ follows_stream : (s : Stream) (ds : List Delimiter) (ts : List Token) → AllFol
 follows_stream end ds ts h = h
 follows_stream (leaf x p m) ds ts h = (tt, follows_stream m ds ts h)
 follows_stream (punct c j p m) ds ts h = (tt, follows_stream m ds ts h)
-follows_stream (group d o c i m) ds ts h =
-    (tt, subst (λ (l : List Token). AllFollow (d ∷ ds) l) (sym (append_assoc (flat i) (closed d c ∷ flat m) ts))
-    (follows_stream i (d ∷ ds) (closed d c ∷ (flat m ++ ts)) (refl, follows_stream m ds ts h)))
+follows_stream (group d o c i m) ds ts h = (
+  tt,
+  subst (λ (l : List Token). AllFollow (d ∷ ds) l) (sym (append_assoc (flat i) (closed d c ∷ flat m) ts))
+      (follows_stream i (d ∷ ds) (closed d c ∷ (flat m ++ ts)) (refl, follows_stream m ds ts h)),
+)
 
 open_after_stream : (s : Stream) (ds : List Delimiter) (ts : List Token) → open_after_all ds (flat s ++ ts) ≡ open_after_all ds ts
 open_after_stream end ds ts = refl

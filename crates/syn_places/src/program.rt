@@ -17,13 +17,7 @@ pub fn run<
     V: Write + Drop,
     A: Answer<Error, Node = String>,
     F: FnOnce(Global, &str) -> A,
->(
-    alloc: Global,
-    mut input: R,
-    output: W,
-    mut faults: V,
-    answer: F,
-) -> u8
+>(alloc: Global, mut input: R, output: W, mut faults: V, answer: F) -> u8
     requires { F.IsAlwaysCallable answer }
     ensures status { (result ≡ 0) ⊎ (result ≡ 1) ⊎ (result ≡ 3) }
 {

@@ -138,7 +138,11 @@ fn add_fault(
     let number = format!(in alloc; "{}", first.line)?;
     writeln!(lines, "error: {}", fault.text)?;
     add_location(lines, name, number.as_str(), first.column)?;
-    let to = if first.line < last.line { usize::MAX } else { last.column };
+    let to = if first.line < last.line {
+        usize::MAX
+    } else {
+        last.column
+    };
     add_lines(lines, number.as_str(), source, first.column, to)
 }
 

@@ -19,7 +19,11 @@ fn spanned(rt: HostRuntime) -> Result<(), Fail> {
     let alloc = rt.alloc();
     let name = ident(alloc, "b", 5)?;
     let span = Span { start: 1, end: 2 };
-    assert_shown(&rt, quote_spanned!(in alloc; span => (#name)), "(@1..2 b@5..6 )@1..2")
+    assert_shown(
+        &rt,
+        quote_spanned!(in alloc; span => (#name)),
+        "(@1..2 b@5..6 )@1..2",
+    )
 }
 
 #[test]
@@ -44,7 +48,11 @@ fn several(rt: HostRuntime) -> Result<(), Fail> {
 fn spacing(rt: HostRuntime) -> Result<(), Fail> {
     let alloc = rt.alloc();
     let name = ident(alloc, "a", 5)?;
-    assert_shown(&rt, quote!(in alloc; #name::#name), "a@5..6 :+@0..0 :@0..0 a@5..6")?;
+    assert_shown(
+        &rt,
+        quote!(in alloc; #name::#name),
+        "a@5..6 :+@0..0 :@0..0 a@5..6",
+    )?;
     assert_shown(&rt, quote!(in alloc; &#name), "&@0..0 a@5..6")?;
     let mark = PathSep::default();
     assert_shown(&rt, quote!(in alloc; &#mark), "&@0..0 :+@0..0 :@0..0")
@@ -69,7 +77,11 @@ fn trees(rt: HostRuntime) -> Result<(), Fail> {
 fn pounds(rt: HostRuntime) -> Result<(), Fail> {
     let alloc = rt.alloc();
     let name = ident(alloc, "a", 5)?;
-    assert_text(&rt, quote!(in alloc; #[#name] # {#name} # 1), "# [ a ] # { a } # 1")
+    assert_text(
+        &rt,
+        quote!(in alloc; #[#name] # {#name} # 1),
+        "# [ a ] # { a } # 1",
+    )
 }
 
 #[test]

@@ -51,7 +51,11 @@ fn lists_of_lists(rt: HostRuntime) -> Result<(), Fail> {
     let mut lists = Vec::new(alloc);
     lists.push(list(alloc, false)?)?;
     lists.push(list(alloc, true)?)?;
-    assert_text(&rt, quote!(in alloc; #([#(#lists #lists);*])*), "[ a a ; b b ] [ a a ; b b ]")
+    assert_text(
+        &rt,
+        quote!(in alloc; #([#(#lists #lists);*])*),
+        "[ a a ; b b ] [ a a ; b b ]",
+    )
 }
 
 /// The text that a value of a round has.

@@ -11,7 +11,11 @@ use syn_tokens::stream::TokenStream;
 use syn_tokens::stream::entry::{Entry, Token};
 
 /// Fails if the text of these tokens isn't this one. It shows no span, and a space after each token but a Joint mark.
-pub fn assert_text(rt: &impl Abort, tokens: Result<TokenStream>, want: &str) -> std::result::Result<(), Fail> {
+pub fn assert_text(
+    rt: &impl Abort,
+    tokens: Result<TokenStream>,
+    want: &str,
+) -> std::result::Result<(), Fail> {
     let text = token_text(&tokens?)?;
     assert_eq!(rt; text.as_str(), want);
     Ok(())

@@ -34,7 +34,11 @@ fn spanned(rt: HostRuntime) -> Result<(), Fail> {
 fn marks(rt: HostRuntime) -> Result<(), Fail> {
     let alloc = rt.alloc();
     assert_text(&rt, quote!(in alloc; a::b), "a :: b")?;
-    assert_text(&rt, quote!(in alloc; x >>= 2; a..=b; c => d; &&e), "x >>= 2 ; a ..= b ; c => d ; && e")?;
+    assert_text(
+        &rt,
+        quote!(in alloc; x >>= 2; a..=b; c => d; &&e),
+        "x >>= 2 ; a ..= b ; c => d ; && e",
+    )?;
     assert_text(&rt, quote!(in alloc; &'static str), "&'static str")?;
     assert_text(&rt, quote!(in alloc; Vec<Vec<u8>>), "Vec < Vec < u8 >>")
 }
@@ -43,14 +47,22 @@ fn marks(rt: HostRuntime) -> Result<(), Fail> {
 fn literals(rt: HostRuntime) -> Result<(), Fail> {
     let alloc = rt.alloc();
     assert_text(&rt, quote!(in alloc; 1 2.5e3 0xffu8), "1 2.5e3 0xffu8")?;
-    assert_text(&rt, quote!(in alloc; "a\n\"b\"" b"c" 'd' b'e'), "\"a\\n\\\"b\\\"\" b\"c\" 'd' b'e'")?;
+    assert_text(
+        &rt,
+        quote!(in alloc; "a\n\"b\"" b"c" 'd' b'e'),
+        "\"a\\n\\\"b\\\"\" b\"c\" 'd' b'e'",
+    )?;
     assert_text(&rt, quote!(in alloc; r#"raw"# r"\"), "r#\"raw\"# r\"\\\"")
 }
 
 #[test]
 fn attributes(rt: HostRuntime) -> Result<(), Fail> {
     let alloc = rt.alloc();
-    assert_text(&rt, quote!(in alloc; #[a(b)] struct C;), "# [ a ( b ) ] struct C ;")?;
+    assert_text(
+        &rt,
+        quote!(in alloc; #[a(b)] struct C;),
+        "# [ a ( b ) ] struct C ;",
+    )?;
     assert_text(&rt, quote!(in alloc; #![a] b), "#! [ a ] b")?;
     let tokens = quote!(in alloc;
         /// A text.

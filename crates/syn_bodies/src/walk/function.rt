@@ -25,8 +25,7 @@ impl<R: Answer<Error, Node = ()>, F: FnMut(&Walked<'_>, &[Ident]) -> R> ByFuncti
 }
 
 impl<R: Answer<Error, Node = ()>, F: FnMut(&Walked<'_>, &[Ident]) -> R> ItemVisitor
-    for ByFunction<R, F>
-{
+    for ByFunction<R, F> {
     fn visit(&mut self, walked: &Walked<'_>, modules: &[Ident]) -> Result<()> {
         (self.f)(walked, modules).answer()
     }

@@ -5,7 +5,8 @@ use syn::{Block, Expr, File, Item, parse2};
 use syn_bodies::without_bodies;
 
 /// `match` and closures aren't read in bodies.
-const TEXT: &str = "fn a() { match b { _ => |c| d } } const E: u8 = if f { 1 } else { 2 }; struct G;";
+const TEXT: &str =
+    "fn a() { match b { _ => |c| d } } const E: u8 = if f { 1 } else { 2 }; struct G;";
 
 #[test]
 fn read(rt: HostRuntime) -> Result<(), Fail> {

@@ -11,10 +11,16 @@ fn bodies(rt: HostRuntime) -> Result<(), Fail> {
     let alloc = rt.alloc();
     let tokens = read_tokens(alloc, "fn a() { b }")?;
     let bodies = without_bodies(&tokens)?;
-    assert_eq!(rt; stream_shown(alloc, &bodies.stream)?.as_str(), "fn@0..2 a@3..4 (@4..5 )@5..6 {@7..8 }@11..12");
+    assert_eq!(rt;
+        stream_shown(alloc, &bodies.stream)?.as_str(),
+        "fn@0..2 a@3..4 (@4..5 )@5..6 {@7..8 }@11..12"
+    );
     assert_eq!(rt; bodies.parts.len(), 1);
     assert_eq!(rt; bodies.parts[0].place, 4);
-    assert_eq!(rt; stream_shown(alloc, &bodies.parts[0].tokens)?.as_str(), "{@7..8 b@9..10 }@11..12");
+    assert_eq!(rt;
+        stream_shown(alloc, &bodies.parts[0].tokens)?.as_str(),
+        "{@7..8 b@9..10 }@11..12"
+    );
     Ok(())
 }
 
@@ -24,11 +30,16 @@ fn values(rt: HostRuntime) -> Result<(), Fail> {
     let alloc = rt.alloc();
     let tokens = read_tokens(alloc, "const A: u8 = 1 + 2;")?;
     let bodies = without_bodies(&tokens)?;
-    assert_eq!(rt; stream_shown(alloc, &bodies.stream)?.as_str(),
-        "const@0..5 A@6..7 :@7..8 u8@9..11 =@12..13 {@14..15 }@18..19 ;@19..20");
+    assert_eq!(rt;
+        stream_shown(alloc, &bodies.stream)?.as_str(),
+        "const@0..5 A@6..7 :@7..8 u8@9..11 =@12..13 {@14..15 }@18..19 ;@19..20"
+    );
     assert_eq!(rt; bodies.parts.len(), 1);
     assert_eq!(rt; bodies.parts[0].place, 5);
-    assert_eq!(rt; stream_shown(alloc, &bodies.parts[0].tokens)?.as_str(), "Int1@14..15 +@16..17 Int2@18..19");
+    assert_eq!(rt;
+        stream_shown(alloc, &bodies.parts[0].tokens)?.as_str(),
+        "Int1@14..15 +@16..17 Int2@18..19"
+    );
     Ok(())
 }
 

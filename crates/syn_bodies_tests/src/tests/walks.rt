@@ -24,8 +24,14 @@ impl ItemVisitor for Words {
         match walked {
             Walked::Item(item) => self.add_item(item),
             Walked::ImplItem(_, ImplItem::Fn(item)) => self.add("method", item.sig.ident.text()),
-            Walked::TraitItem(_, TraitItem::Fn(item)) => self.add("trait_fn", item.sig.ident.text()),
-            Walked::ForeignItem(_, ForeignItem::Fn(item)) => self.add("foreign_fn", item.sig.ident.text()),
+            Walked::TraitItem(_, TraitItem::Fn(item)) => self.add(
+                "trait_fn",
+                item.sig.ident.text(),
+            ),
+            Walked::ForeignItem(_, ForeignItem::Fn(item)) => self.add(
+                "foreign_fn",
+                item.sig.ident.text(),
+            ),
             Walked::ImplItem(_, _) => self.add("impl_item", ""),
             Walked::TraitItem(_, _) => self.add("trait_item", ""),
             Walked::ForeignItem(_, _) => self.add("foreign_item", ""),
@@ -75,20 +81,39 @@ fn assert_words(rt: &(impl Abort + Alloc), text: &str, want: &str) -> Result<(),
 #[test]
 fn items(rt: HostRuntime) -> Result<(), Fail> {
     assert_words(&rt, "", "")?;
-    assert_words(&rt, "struct A; use b; fn c() { fn d() {} }", "struct(A) item fn(c)")
+    assert_words(
+        &rt,
+        "struct A; use b; fn c() { fn d() {} }",
+        "struct(A) item fn(c)",
+    )
 }
 
 #[test]
 fn members(rt: HostRuntime) -> Result<(), Fail> {
-    assert_words(&rt, "impl A { fn b() {} const C: u8 = 1; } fn d() {}", "impl method(b) impl_item fn(d)")?;
-    assert_words(&rt, "trait A { fn b(); type C; }", "trait(A) trait_fn(b) trait_item")?;
-    assert_words(&rt, "extern \"C\" { fn a(); static B: u8; }", "extern foreign_fn(a) foreign_item")
+    assert_words(
+        &rt,
+        "impl A { fn b() {} const C: u8 = 1; } fn d() {}",
+        "impl method(b) impl_item fn(d)",
+    )?;
+    assert_words(
+        &rt,
+        "trait A { fn b(); type C; }",
+        "trait(A) trait_fn(b) trait_item",
+    )?;
+    assert_words(
+        &rt,
+        "extern \"C\" { fn a(); static B: u8; }",
+        "extern foreign_fn(a) foreign_item",
+    )
 }
 
 #[test]
 fn modules(rt: HostRuntime) -> Result<(), Fail> {
-    assert_words(&rt, "mod a; mod b { fn c() {} mod d { impl E { fn f() {} } } struct G; } fn h() {}",
-        "mod(a) mod(b) b::fn(c) b::mod(d) b::d::impl b::d::method(f) b::struct(G) fn(h)")
+    assert_words(
+        &rt,
+        "mod a; mod b { fn c() {} mod d { impl E { fn f() {} } } struct G; } fn h() {}",
+        "mod(a) mod(b) b::fn(c) b::mod(d) b::d::impl b::d::method(f) b::struct(G) fn(h)",
+    )
 }
 
 /// The text of modules that are nested so often.

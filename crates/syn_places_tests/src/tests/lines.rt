@@ -5,14 +5,12 @@ use std::test::Fail;
 use syn_places::{LineColumn, LineIndex};
 
 /// Fails if a byte of a text isn't at this line and column.
-fn assert_place(
-    rt: &impl Abort,
-    index: &LineIndex<'_>,
-    byte: usize,
-    line: usize,
-    column: usize,
-) {
-    assert_eq!(rt; index.line_column(byte), LineColumn { line, column }, "byte {byte}");
+fn assert_place(rt: &impl Abort, index: &LineIndex<'_>, byte: usize, line: usize, column: usize) {
+    assert_eq!(rt;
+        index.line_column(byte),
+        LineColumn { line, column },
+        "byte {byte}"
+    );
 }
 
 fn index(alloc: Global, text: &str) -> Result<LineIndex<'_>, Fail> {
@@ -77,7 +75,13 @@ fn many(rt: HostRuntime) -> Result<(), Fail> {
     }
     let index = index(rt.alloc(), text.as_str())?;
     for line in 0..100usize {
-        assert_place(&rt, &index, line.saturating_mul(3).saturating_add(1), line.saturating_add(1), 1);
+        assert_place(
+            &rt,
+            &index,
+            line.saturating_mul(3).saturating_add(1),
+            line.saturating_add(1),
+            1,
+        );
     }
     Ok(())
 }

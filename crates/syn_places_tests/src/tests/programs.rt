@@ -74,7 +74,11 @@ fn refused(rt: HostRuntime) -> std::result::Result<(), Fail> {
     let status = run(alloc, b"a\n(b".as_slice(), &mut out, &mut faults, answer);
     assert_eq!(rt; status, 1u8);
     assert_bytes(&rt, &out, "");
-    assert_bytes(&rt, &faults, "error: unbalanced group\n --> input:2:1\n  |\n2 | (b\n  | ^\n");
+    assert_bytes(
+        &rt,
+        &faults,
+        "error: unbalanced group\n --> input:2:1\n  |\n2 | (b\n  | ^\n",
+    );
     Ok(())
 }
 

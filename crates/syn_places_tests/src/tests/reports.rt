@@ -65,7 +65,8 @@ fn several_lines(rt: HostRuntime) -> Result<(), Fail> {
 fn several_faults(rt: HostRuntime) -> Result<(), Fail> {
     let mut error = fault(0, 1, "first");
     error.combine(fault(2, 3, "second"));
-    let want = "error: first\n --> input:1:1\n  |\n1 | a b\n  | ^\nerror: second\n --> input:1:3\n  |\n1 | a b\n  |   ^\n";
+    let want =
+        "error: first\n --> input:1:1\n  |\n1 | a b\n  | ^\nerror: second\n --> input:1:3\n  |\n1 | a b\n  |   ^\n";
     assert_shown(&rt, "a b", &error, want)
 }
 
