@@ -1,41 +1,16 @@
 //! Where bodies and values are, by the tokens before them.
-ghost use Rattle.std.specs.Prelude.{◌≡◌, ◌+◌, ◌<◌, ◌^◌, false};
+ghost use Rattle.std.specs.Prelude.{◌≡◌, ◌+◌, ◌<◌, ◌^◌};
 ghost use Rattle.syn_entries.specs.Placed.{token_of};
-ghost use Rattle.syn_bodies.specs.States.{FitsPlace, after, after_angles, after_bang, after_bang_name, after_const, after_fn, after_group, after_head, after_inside, after_outside, after_plain, after_pound, after_type, after_value, inside, is_prefix, kind_of, kind_of_mark, kind_of_word, outside, takes};
+ghost use Rattle.syn_bodies.specs.States as states;
+ghost use Rattle.syn_bodies.specs.States.{FitsPlace, after, after_angles, after_bang, after_bang_name, after_const, after_fn, after_group, after_head, after_inside, after_outside, after_plain, after_pound, after_type, after_value, inside, is_word, no_angles, outside, takes};
 ghost use Rattle.syn_bodies.specs.declared.state.Place.TheVariants as P;
 
-use syn_tokens::delimiter::Delimiter;
-use syn_tokens::ident::ident_ref::IdentRef;
-use syn_tokens::stream::entry::{Entry, Token};
+use crate::state::tests::{
+    closes, is_any_mark, is_brace, is_ident, is_item_word, is_mark, is_word, opens,
+};
+use syn_tokens::stream::entry::Entry;
 
-/// What a token is, as far as it decides where bodies and values are.
-#[derive(Clone, Copy)]
-pub(crate) enum Kind {
-    /// `fn`
-    Fn,
-    /// `const` or `static`
-    Const,
-    /// `mut`
-    Mut,
-    /// A word after which `const` begins no constant: `async`, `auto`, `extern`, `impl`, `move`, `trait` or `unsafe`.
-    Prefix,
-    /// Any other identifier.
-    Name,
-    Literal,
-    Semi,
-    Less,
-    Greater,
-    Minus,
-    Equals,
-    Pound,
-    Bang,
-    /// Any other character of a mark.
-    Mark,
-    Brace,
-    /// Any other opening delimiter.
-    Open,
-    Close,
-}
+mod tests;
 
 /// In the head of a function or the type of a constant: how many `<` are open, and whether a `-` or `=` is right before, with which
 /// a `>` is an arrow.
@@ -65,7 +40,7 @@ pub(crate) enum Place {
     /// `const` or `static`, perhaps with `mut`.
     Const,
     /// The name of a constant, and some of its type.
-    Type(Angles),
+    ConstType(Angles),
     /// The `=` before a value.
     Equals,
     /// The opening brace of a body, and some of its content.
@@ -81,137 +56,258 @@ pub(crate) struct State {
     pub(crate) depth: usize,
 }
 
-/// What an identifier is.
-fn kind_of_word(word: &IdentRef<'_>) -> Kind
-    ensures { result ≡ kind_of_word word.now.text }
-{
-    if word.is("fn") {
-        return Kind::Fn;
-    }
-    if word.is("const") {
-        return Kind::Const;
-    }
-    if word.is("static") {
-        return Kind::Const;
-    }
-    if word.is("mut") {
-        return Kind::Mut;
-    }
-    if is_prefix(word) {
-        return Kind::Prefix;
-    }
-    Kind::Name
-}
-
-/// Whether a constant never begins with `const` and this word.
-fn is_prefix(word: &IdentRef<'_>) -> bool
-    ensures { result ≡ is_prefix word.now.text }
-{
-    word.is("async")
-        || word.is("auto")
-        || word.is("extern")
-        || word.is("impl")
-        || word.is("move")
-        || word.is("trait")
-        || word.is("unsafe")
-}
-
-/// What a character of a mark is.
-fn kind_of_mark(character: char) -> Kind
-    ensures { result ≡ kind_of_mark character }
-{
-    match character {
-        ';' => Kind::Semi,
-        '<' => Kind::Less,
-        '>' => Kind::Greater,
-        '-' => Kind::Minus,
-        '=' => Kind::Equals,
-        '#' => Kind::Pound,
-        '!' => Kind::Bang,
-        _ => Kind::Mark,
-    }
-}
-
-/// What an entry is.
-pub(crate) fn kind_of(entry: &Entry) -> Kind
-    ensures { result ≡ kind_of (token_of entry.now) }
-{
-    match entry.token() {
-        Token::Ident(ident) => kind_of_word(&ident),
-        Token::Literal(_) => Kind::Literal,
-        Token::Punct(punct) => kind_of_mark(punct.character()),
-        Token::Open(open) => match open.delimiter {
-            Delimiter::Brace => Kind::Brace,
-            Delimiter::Paren => Kind::Open,
-            Delimiter::Bracket => Kind::Open,
-            Delimiter::None => Kind::Open,
-        },
-        Token::Close(_) => Kind::Close,
-    }
-}
-
-impl Angles {
-    /// None is open.
-    fn none() -> Angles
-        ensures { result ≡ record { count = 0; is_arrow = false } }
-    {
-        Angles {
-            count: 0,
-            is_arrow: false,
-        }
-    }
-
-    /// After a token.
-    fn after(self, kind: Kind) -> Angles
-        requires { self.count + 1 < 2 ^ 64 }
-        ensures { result ≡ after_angles self kind }
-    {
-        let count = match kind {
-            Kind::Less => self.count + 1,
-            Kind::Greater => if self.is_arrow {
-                self.count
-            } else {
-                self.count.saturating_sub(1)
-            },
-            _ => self.count,
-        };
-        let is_arrow = matches!(kind, Kind::Minus | Kind::Equals);
-        Angles { count, is_arrow }
-    }
-}
-
-/// In no group that is opened since this was read last.
+/// In no group that was opened since.
 fn outside(place: Place) -> State
     ensures { result ≡ outside place }
 {
     State { place, depth: 0 }
 }
 
-/// In a group that is opened right after this was read last.
+/// In a group that was opened right after.
 fn inside(place: Place) -> State
     ensures { result ≡ inside place }
 {
     State { place, depth: 1 }
 }
 
-/// After a token where an item may begin, or where it may not because a mark is right before.
-fn after_plain(is_after_mark: bool, kind: Kind) -> State
-    ensures { result ≡ after_plain is_after_mark kind }
+/// No `<` is open.
+fn no_angles() -> Angles
+    ensures { result ≡ no_angles }
 {
-    let place = match kind {
-        Kind::Fn => Place::Fn,
-        Kind::Const => if is_after_mark {
-            Place::Plain
-        } else {
-            Place::Const
-        },
-        Kind::Pound => Place::Pound(is_after_mark),
-        Kind::Bang => Place::Bang,
-        Kind::Less | Kind::Greater | Kind::Minus | Kind::Equals | Kind::Mark => Place::Mark,
-        Kind::Mut | Kind::Prefix | Kind::Name | Kind::Literal => Place::Plain,
-        Kind::Semi | Kind::Brace | Kind::Open | Kind::Close => Place::Plain,
-    };
-    outside(place)
+    Angles {
+        count: 0,
+        is_arrow: false,
+    }
+}
+
+/// The number of `<` that are open after a token.
+fn count_after(angles: Angles, entry: &Entry) -> usize
+    requires { angles.count + 1 < 2 ^ 64 }
+    ensures { result ≡ states.count_after angles (token_of entry.now) }
+{
+    if is_mark(entry, '<') {
+        return angles.count + 1;
+    }
+    if !is_mark(entry, '>') {
+        return angles.count;
+    }
+    if angles.is_arrow {
+        return angles.count;
+    }
+    angles.count.saturating_sub(1)
+}
+
+/// Whether a `>` right after a token is that of an arrow.
+fn is_arrow_after(entry: &Entry) -> bool
+    ensures { result ≡ states.is_arrow_after (token_of entry.now) }
+{
+    if is_mark(entry, '-') {
+        return true;
+    }
+    is_mark(entry, '=')
+}
+
+/// After a token.
+fn after_angles(angles: Angles, entry: &Entry) -> Angles
+    requires { angles.count + 1 < 2 ^ 64 }
+    ensures { result ≡ after_angles angles (token_of entry.now) }
+{
+    Angles {
+        count: count_after(angles, entry),
+        is_arrow: is_arrow_after(entry),
+    }
+}
+
+/// After a token where an item may begin, or where it may not because a mark is right before.
+fn after_plain(is_after_mark: bool, entry: &Entry) -> State
+    ensures { result ≡ after_plain is_after_mark (token_of entry.now) }
+{
+    if is_word(entry, "fn") {
+        return outside(Place::Fn);
+    }
+    if is_word(entry, "const") {
+        return after_constant_word(is_after_mark);
+    }
+    if is_word(entry, "static") {
+        return after_constant_word(is_after_mark);
+    }
+    if is_mark(entry, '#') {
+        return outside(Place::Pound(is_after_mark));
+    }
+    if is_mark(entry, '!') {
+        return outside(Place::Bang);
+    }
+    if is_mark(entry, ';') {
+        return outside(Place::Plain);
+    }
+    if is_any_mark(entry) {
+        return outside(Place::Mark);
+    }
+    outside(Place::Plain)
+}
+
+/// After `const` or `static`.
+fn after_constant_word(is_after_mark: bool) -> State
+    ensures { result ≡ states.after_constant_word is_after_mark }
+{
+    if is_after_mark {
+        return outside(Place::Plain);
+    }
+    outside(Place::Const)
+}
+
+/// After a token that follows the `#` of an attribute.
+fn after_pound(is_after_mark: bool, entry: &Entry) -> State
+    ensures { result ≡ after_pound is_after_mark (token_of entry.now) }
+{
+    if is_mark(entry, '!') {
+        return outside(Place::Pound(is_after_mark));
+    }
+    if opens(entry) {
+        return inside(Place::Pound(is_after_mark));
+    }
+    after_plain(true, entry)
+}
+
+/// After a token that follows the `!` of a macro.
+fn after_bang(entry: &Entry) -> State
+    ensures { result ≡ after_bang (token_of entry.now) }
+{
+    if is_ident(entry) {
+        return outside(Place::BangName);
+    }
+    if opens(entry) {
+        return inside(Place::Bang);
+    }
+    after_plain(true, entry)
+}
+
+/// After a token that follows the `!` of a macro and a name.
+fn after_bang_name(entry: &Entry) -> State
+    ensures { result ≡ after_bang_name (token_of entry.now) }
+{
+    if opens(entry) {
+        return inside(Place::BangName);
+    }
+    after_plain(false, entry)
+}
+
+/// After a token that follows `fn`.
+fn after_fn(entry: &Entry) -> State
+    ensures { result ≡ after_fn (token_of entry.now) }
+{
+    if is_ident(entry) {
+        return outside(Place::Head(no_angles()));
+    }
+    after_plain(false, entry)
+}
+
+/// After a token in the head of a function.
+fn after_head(angles: Angles, entry: &Entry) -> State
+    requires { angles.count + 1 < 2 ^ 64 }
+    ensures { result ≡ after_head angles (token_of entry.now) }
+{
+    if is_mark(entry, ';') {
+        return outside(Place::Plain);
+    }
+    if closes(entry) {
+        return outside(Place::Plain);
+    }
+    if is_brace(entry) {
+        return after_brace(angles);
+    }
+    if opens(entry) {
+        return inside(Place::Head(angles));
+    }
+    outside(Place::Head(after_angles(angles, entry)))
+}
+
+/// After an opening brace in the head of a function.
+fn after_brace(angles: Angles) -> State
+    ensures { result ≡ states.after_brace angles }
+{
+    if angles.count == 0 {
+        return inside(Place::Body);
+    }
+    inside(Place::Head(angles))
+}
+
+/// After a token that follows `const` or `static`.
+fn after_const(entry: &Entry) -> State
+    ensures { result ≡ after_const (token_of entry.now) }
+{
+    if is_word(entry, "mut") {
+        return outside(Place::Const);
+    }
+    if is_item_word(entry) {
+        return after_plain(false, entry);
+    }
+    if is_ident(entry) {
+        return outside(Place::ConstType(no_angles()));
+    }
+    after_plain(false, entry)
+}
+
+/// After a token in the type of a constant.
+fn after_type(angles: Angles, entry: &Entry) -> State
+    requires { angles.count + 1 < 2 ^ 64 }
+    ensures { result ≡ after_type angles (token_of entry.now) }
+{
+    if is_mark(entry, ';') {
+        return outside(Place::Plain);
+    }
+    if closes(entry) {
+        return outside(Place::Plain);
+    }
+    if angles.count == 0 {
+        if is_brace(entry) {
+            return outside(Place::Plain);
+        }
+        if is_mark(entry, '=') {
+            return outside(Place::Equals);
+        }
+    }
+    if opens(entry) {
+        return inside(Place::ConstType(angles));
+    }
+    outside(Place::ConstType(after_angles(angles, entry)))
+}
+
+/// After a token of a value, or right after the `=` before one.
+fn after_value(entry: &Entry) -> State
+    ensures { result ≡ after_value (token_of entry.now) }
+{
+    if is_mark(entry, ';') {
+        return outside(Place::Plain);
+    }
+    if closes(entry) {
+        return outside(Place::Plain);
+    }
+    if opens(entry) {
+        return inside(Place::Value);
+    }
+    outside(Place::Value)
+}
+
+/// After a token in no group that was opened since.
+fn after_outside(place: Place, entry: &Entry) -> State
+    requires { FitsPlace place }
+    ensures { result ≡ after_outside place (token_of entry.now) }
+{
+    match place {
+        Place::Plain => after_plain(false, entry),
+        Place::Mark => after_plain(true, entry),
+        Place::Pound(is_after_mark) => after_pound(is_after_mark, entry),
+        Place::Bang => after_bang(entry),
+        Place::BangName => after_bang_name(entry),
+        Place::Fn => after_fn(entry),
+        Place::Head(angles) => after_head(angles, entry),
+        Place::Const => after_const(entry),
+        Place::ConstType(angles) => after_type(angles, entry),
+        Place::Equals => after_value(entry),
+        Place::Body => after_plain(false, entry),
+        Place::Value => after_value(entry),
+    }
 }
 
 /// What was read last, after a group that was opened after this.
@@ -219,181 +315,51 @@ fn after_group(place: Place) -> Place
     ensures { result ≡ after_group place }
 {
     match place {
+        Place::Plain => Place::Plain,
+        Place::Mark => Place::Plain,
         Place::Pound(is_after_mark) => if is_after_mark {
             Place::Mark
         } else {
             Place::Plain
         },
+        Place::Bang => Place::Plain,
+        Place::BangName => Place::Plain,
+        Place::Fn => Place::Plain,
         Place::Head(angles) => Place::Head(Angles {
             count: angles.count,
             is_arrow: false,
         }),
-        Place::Type(angles) => Place::Type(Angles {
+        Place::Const => Place::Plain,
+        Place::ConstType(angles) => Place::ConstType(Angles {
             count: angles.count,
             is_arrow: false,
         }),
+        Place::Equals => Place::Plain,
+        Place::Body => Place::Plain,
         Place::Value => Place::Value,
-        Place::Plain | Place::Mark | Place::Bang | Place::BangName => Place::Plain,
-        Place::Fn | Place::Const | Place::Equals | Place::Body => Place::Plain,
     }
 }
 
-/// After a token that follows the `#` of an attribute.
-fn after_pound(is_after_mark: bool, kind: Kind) -> State
-    ensures { result ≡ after_pound is_after_mark kind }
+/// After a token in a group that was opened since, if so many groups are open.
+fn after_inside(place: Place, depth: usize, entry: &Entry) -> State
+    requires { depth + 1 < 2 ^ 64 }
+    ensures { result ≡ after_inside place depth (token_of entry.now) }
 {
-    match kind {
-        Kind::Bang => outside(Place::Pound(is_after_mark)),
-        Kind::Brace | Kind::Open => inside(Place::Pound(is_after_mark)),
-        _ => after_plain(true, kind),
+    if opens(entry) {
+        return State {
+            place,
+            depth: depth + 1,
+        };
     }
-}
-
-/// After a token that follows the `!` of a macro.
-fn after_bang(kind: Kind) -> State
-    ensures { result ≡ after_bang kind }
-{
-    match kind {
-        Kind::Name => outside(Place::BangName),
-        Kind::Brace | Kind::Open => inside(Place::Bang),
-        _ => after_plain(true, kind),
+    if !closes(entry) {
+        return State { place, depth };
     }
-}
-
-/// After a token that follows the `!` of a macro and a name.
-fn after_bang_name(kind: Kind) -> State
-    ensures { result ≡ after_bang_name kind }
-{
-    match kind {
-        Kind::Brace | Kind::Open => inside(Place::BangName),
-        _ => after_plain(false, kind),
+    if depth == 1 {
+        return outside(after_group(place));
     }
-}
-
-/// After a token that follows `fn`.
-fn after_fn(kind: Kind) -> State
-    ensures { result ≡ after_fn kind }
-{
-    match kind {
-        Kind::Prefix | Kind::Name => outside(Place::Head(Angles::none())),
-        _ => after_plain(false, kind),
-    }
-}
-
-/// After a token in the head of a function.
-fn after_head(angles: Angles, kind: Kind) -> State
-    requires { angles.count + 1 < 2 ^ 64 }
-    ensures { result ≡ after_head angles kind }
-{
-    match kind {
-        Kind::Semi | Kind::Close => outside(Place::Plain),
-        Kind::Brace => {
-            if angles.count == 0 {
-                inside(Place::Body)
-            } else {
-                inside(Place::Head(angles))
-            }
-        }
-        Kind::Open => inside(Place::Head(angles)),
-        _ => outside(Place::Head(angles.after(kind))),
-    }
-}
-
-/// After a token that follows `const` or `static`.
-fn after_const(kind: Kind) -> State
-    ensures { result ≡ after_const kind }
-{
-    match kind {
-        Kind::Mut => outside(Place::Const),
-        Kind::Name => outside(Place::Type(Angles::none())),
-        _ => after_plain(false, kind),
-    }
-}
-
-/// After a token in the type of a constant.
-fn after_type(angles: Angles, kind: Kind) -> State
-    requires { angles.count + 1 < 2 ^ 64 }
-    ensures { result ≡ after_type angles kind }
-{
-    match kind {
-        Kind::Semi | Kind::Close => outside(Place::Plain),
-        Kind::Brace => {
-            if angles.count == 0 {
-                outside(Place::Plain)
-            } else {
-                inside(Place::Type(angles))
-            }
-        }
-        Kind::Open => inside(Place::Type(angles)),
-        Kind::Equals => {
-            if angles.count == 0 {
-                outside(Place::Equals)
-            } else {
-                outside(Place::Type(angles.after(kind)))
-            }
-        }
-        _ => outside(Place::Type(angles.after(kind))),
-    }
-}
-
-/// After a token of a value, or right after the `=` before one.
-fn after_value(kind: Kind) -> State
-    ensures { result ≡ after_value kind }
-{
-    match kind {
-        Kind::Semi | Kind::Close => outside(Place::Plain),
-        Kind::Brace | Kind::Open => inside(Place::Value),
-        _ => outside(Place::Value),
-    }
-}
-
-impl Place {
-    /// After a token in no group that was opened since.
-    fn after_outside(self, kind: Kind) -> State
-        requires { FitsPlace self }
-        ensures { result ≡ after_outside self kind }
-    {
-        match self {
-            Place::Plain => after_plain(false, kind),
-            Place::Mark => after_plain(true, kind),
-            Place::Pound(is_after_mark) => after_pound(is_after_mark, kind),
-            Place::Bang => after_bang(kind),
-            Place::BangName => after_bang_name(kind),
-            Place::Fn => after_fn(kind),
-            Place::Head(angles) => after_head(angles, kind),
-            Place::Const => after_const(kind),
-            Place::Type(angles) => after_type(angles, kind),
-            Place::Equals => after_value(kind),
-            Place::Body => after_plain(false, kind),
-            Place::Value => after_value(kind),
-        }
-    }
-
-    /// After a token in a group that was opened since, if so many more are open in it.
-    fn after_inside(self, more: usize, kind: Kind) -> State
-        requires { more + 2 < 2 ^ 64 }
-        ensures { result ≡ after_inside self more kind }
-    {
-        match kind {
-            Kind::Brace | Kind::Open => State {
-                place: self,
-                depth: more + 2,
-            },
-            Kind::Close => {
-                if more == 0 {
-                    outside(after_group(self))
-                } else {
-                    State {
-                        place: self,
-                        depth: more,
-                    }
-                }
-            }
-            _ => State {
-                place: self,
-                depth: more + 1,
-            },
-        }
+    State {
+        place,
+        depth: depth.saturating_sub(1),
     }
 }
 
@@ -406,16 +372,15 @@ impl State {
     }
 
     /// After a token.
-    pub(crate) fn after(self, kind: Kind) -> State
+    pub(crate) fn after(self, entry: &Entry) -> State
         requires place { FitsPlace self.place }
         requires depth { self.depth + 1 < 2 ^ 64 }
-        ensures { result ≡ after self kind }
+        ensures { result ≡ after self (token_of entry.now) }
     {
         if self.depth == 0 {
-            self.place.after_outside(kind)
-        } else {
-            self.place.after_inside(self.depth - 1, kind)
+            return after_outside(self.place, entry);
         }
+        after_inside(self.place, self.depth, entry)
     }
 
     /// Whether what was read last is in a body or a value.
@@ -423,10 +388,18 @@ impl State {
         ensures { result ≡ takes self }
     {
         match self.place {
+            Place::Plain => false,
+            Place::Mark => false,
+            Place::Pound(_) => false,
+            Place::Bang => false,
+            Place::BangName => false,
+            Place::Fn => false,
+            Place::Head(_) => false,
+            Place::Const => false,
+            Place::ConstType(_) => false,
+            Place::Equals => false,
             Place::Body => true,
             Place::Value => true,
-            Place::Plain | Place::Mark | Place::Pound(_) | Place::Bang | Place::BangName => false,
-            Place::Fn | Place::Head(_) | Place::Const | Place::Type(_) | Place::Equals => false,
         }
     }
 }

@@ -40,8 +40,11 @@ fn is_mark(entry: &Entry, character: char) -> bool
     ensures { (s : grammar.Span) → result ≡ holes.is_mark character (token_at s entry.now) }
 {
     match entry.token() {
+        Token::Ident(_) => false,
+        Token::Literal(_) => false,
         Token::Punct(punct) => punct.character() == character,
-        Token::Ident(_) | Token::Literal(_) | Token::Open(_) | Token::Close(_) => false,
+        Token::Open(_) => false,
+        Token::Close(_) => false,
     }
 }
 
@@ -51,7 +54,10 @@ fn is_name(entry: &Entry) -> bool
 {
     match entry.token() {
         Token::Ident(_) => true,
-        Token::Literal(_) | Token::Punct(_) | Token::Open(_) | Token::Close(_) => false,
+        Token::Literal(_) => false,
+        Token::Punct(_) => false,
+        Token::Open(_) => false,
+        Token::Close(_) => false,
     }
 }
 
@@ -66,7 +72,10 @@ fn is_paren(entry: &Entry) -> bool
             Delimiter::Bracket => false,
             Delimiter::None => false,
         },
-        Token::Ident(_) | Token::Literal(_) | Token::Punct(_) | Token::Close(_) => false,
+        Token::Ident(_) => false,
+        Token::Literal(_) => false,
+        Token::Punct(_) => false,
+        Token::Close(_) => false,
     }
 }
 
@@ -113,7 +122,10 @@ fn is_closing(entry: &Entry) -> bool
 {
     match entry.token() {
         Token::Close(_) => true,
-        Token::Ident(_) | Token::Literal(_) | Token::Punct(_) | Token::Open(_) => false,
+        Token::Ident(_) => false,
+        Token::Literal(_) => false,
+        Token::Punct(_) => false,
+        Token::Open(_) => false,
     }
 }
 
@@ -124,7 +136,9 @@ fn is_delimiter(entry: &Entry) -> bool
     match entry.token() {
         Token::Open(_) => true,
         Token::Close(_) => true,
-        Token::Ident(_) | Token::Literal(_) | Token::Punct(_) => false,
+        Token::Ident(_) => false,
+        Token::Literal(_) => false,
+        Token::Punct(_) => false,
     }
 }
 
@@ -136,7 +150,9 @@ fn depth_after(depth: usize, entry: &Entry) -> usize
     match entry.token() {
         Token::Open(_) => depth + 1,
         Token::Close(_) => depth.saturating_sub(1),
-        Token::Ident(_) | Token::Literal(_) | Token::Punct(_) => depth,
+        Token::Ident(_) => depth,
+        Token::Literal(_) => depth,
+        Token::Punct(_) => depth,
     }
 }
 

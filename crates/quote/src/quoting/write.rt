@@ -45,10 +45,11 @@ fn add_last(entry: &Entry, span: Span, out: &mut StreamBuilder) -> Result<(), Al
     ensures groups { OnOk result (open_in out.new ≡ open_after (open_in out.old) (token_at (at span) entry.now)) }
 {
     match entry.token() {
+        Token::Ident(_) => add_entry(entry, span, out),
+        Token::Literal(_) => add_entry(entry, span, out),
         Token::Punct(punct) => add_mark(punct.character(), Spacing::Alone, span, out),
-        Token::Ident(_) | Token::Literal(_) | Token::Open(_) | Token::Close(_) => {
-            add_entry(entry, span, out)
-        }
+        Token::Open(_) => add_entry(entry, span, out),
+        Token::Close(_) => add_entry(entry, span, out),
     }
 }
 

@@ -1,7 +1,7 @@
 //! What reads a stream and takes parts out of it.
 
 use crate::bodies::{Bodies, Part};
-use crate::state::{Place, State, kind_of};
+use crate::state::{Place, State};
 use std::alloc::{AllocError, Global};
 use syn_entries::entries::{add_entry, close_group, open_group};
 use syn_tokens::delimiter::Delimiter;
@@ -41,7 +41,7 @@ impl Reader {
 
     /// Reads an entry: writes it, or takes it out.
     pub(super) fn read(&mut self, entry: &Entry) -> Result<(), AllocError> {
-        let next = self.state.after(kind_of(entry));
+        let next = self.state.after(entry);
         let span = entry.span();
         if self.state.takes() {
             if next.takes() {
