@@ -138,16 +138,18 @@ after_const t =
     else (if is_item_word t then after_plain false t
     else (if is_ident t then outside (P.ConstType no_angles) else after_plain false t))
 
--- in the type of a constant, but for what may end it
-abbrev pub after_type_token : Angles → Token → State
-after_type_token a t = if opens t then inside (P.ConstType a) else outside (P.ConstType (after_angles a t))
+-- in the type of a constant, but for what ends it
+abbrev pub after_type_inside : Angles → Token → State
+after_type_inside a t = if opens t then inside (P.ConstType a) else outside (P.ConstType (after_angles a t))
+
+abbrev pub after_type_outside : Angles → Token → State
+after_type_outside a t = if is_brace t then outside P.Plain else (if is_mark 61 t then outside P.Equals else after_type_inside a t)
 
 -- it ends at the value, which follows the first `=` outside of `< >`, or at a `;`; braces there show that it is no constant
 abbrev pub after_type : Angles → Token → State
 after_type a t =
     if is_mark 59 t then outside P.Plain
-    else (if closes t then outside P.Plain
-    else (if nat_eq a.count 0 then (if is_brace t then outside P.Plain else (if is_mark 61 t then outside P.Equals else after_type_token a t)) else after_type_token a t))
+    else (if closes t then outside P.Plain else (if nat_eq a.count 0 then after_type_outside a t else after_type_inside a t))
 
 -- a value ends at a `;`, or with the group or the stream that it is in
 abbrev pub after_value : Token → State

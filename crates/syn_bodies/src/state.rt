@@ -5,12 +5,12 @@ ghost use Rattle.syn_bodies.specs.States as states;
 ghost use Rattle.syn_bodies.specs.States.{FitsPlace, after, after_angles, after_bang, after_bang_name, after_const, after_fn, after_group, after_head, after_inside, after_outside, after_plain, after_pound, after_type, after_value, inside, is_word, no_angles, outside, takes};
 ghost use Rattle.syn_bodies.specs.declared.state.Place.TheVariants as P;
 
-use crate::state::tests::{
+use crate::state::tokens::{
     closes, is_any_mark, is_brace, is_ident, is_item_word, is_mark, is_word, opens,
 };
 use syn_tokens::stream::entry::Entry;
 
-mod tests;
+mod tokens;
 
 /// In the head of a function or the type of a constant: how many `<` are open, and whether a `-` or `=` is right before, with which
 /// a `>` is an arrow.
@@ -260,13 +260,30 @@ fn after_type(angles: Angles, entry: &Entry) -> State
         return outside(Place::Plain);
     }
     if angles.count == 0 {
-        if is_brace(entry) {
-            return outside(Place::Plain);
-        }
-        if is_mark(entry, '=') {
-            return outside(Place::Equals);
-        }
+        return after_type_outside(angles, entry);
     }
+    after_type_inside(angles, entry)
+}
+
+/// After a token in the type of a constant that is in no `< >`.
+fn after_type_outside(angles: Angles, entry: &Entry) -> State
+    requires { angles.count + 1 < 2 ^ 64 }
+    ensures { result ≡ states.after_type_outside angles (token_of entry.now) }
+{
+    if is_brace(entry) {
+        return outside(Place::Plain);
+    }
+    if is_mark(entry, '=') {
+        return outside(Place::Equals);
+    }
+    after_type_inside(angles, entry)
+}
+
+/// After a token in the type of a constant that doesn't end it.
+fn after_type_inside(angles: Angles, entry: &Entry) -> State
+    requires { angles.count + 1 < 2 ^ 64 }
+    ensures { result ≡ states.after_type_inside angles (token_of entry.now) }
+{
     if opens(entry) {
         return inside(Place::ConstType(angles));
     }
