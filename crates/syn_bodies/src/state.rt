@@ -419,4 +419,24 @@ impl State {
             Place::Value => true,
         }
     }
+
+    /// Whether it is in a body.
+    pub(crate) fn is_body(self) -> bool
+        ensures { result ≡ states.is_body self.place }
+    {
+        match self.place {
+            Place::Plain => false,
+            Place::Mark => false,
+            Place::Pound(_) => false,
+            Place::Bang => false,
+            Place::BangName => false,
+            Place::Fn => false,
+            Place::Head(_) => false,
+            Place::Const => false,
+            Place::ConstType(_) => false,
+            Place::Equals => false,
+            Place::Body => true,
+            Place::Value => false,
+        }
+    }
 }

@@ -1,6 +1,5 @@
 -- Lines and columns of a text, as its bytes in UTF-8.
-use Rattle.std.specs.Prelude.{ℕ, suc, Bool, true, ◌||◌, ◌==◌, nat_lt, nat_le, List, [], ◌∷◌, count_by, if◌then◌else◌}
-use Rattle.std.specs.List.{list_any}
+use Rattle.std.specs.Prelude.{ℕ, suc, Bool, ◌||◌, ◌==◌, nat_lt, nat_le, List, [], ◌∷◌, count_by, if◌then◌else◌}
 
 abbrev pub is_newline : ℕ → Bool
 is_newline b = b == 10
@@ -16,7 +15,7 @@ newlines bs = count_by is_newline bs
 -- what follows the last newline; everything if there is none
 abbrev pub last_line : List ℕ → List ℕ
 last_line [] = []
-last_line (b ∷ bs) = if list_any is_newline bs then last_line bs else (if is_newline b then bs else b ∷ bs)
+last_line (b ∷ bs) = if newlines bs == 0 then (if is_newline b then bs else b ∷ bs) else last_line bs
 
 -- where a line begins after each newline, if so many bytes are before these
 abbrev pub starts_from : ℕ → List ℕ → List ℕ

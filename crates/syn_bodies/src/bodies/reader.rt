@@ -10,7 +10,7 @@ ghost use Rattle.syn_bodies.specs.States.{blanked};
 ghost use Rattle.syn_bodies.specs.PutBack.{placed_parts, put_back};
 
 use crate::bodies::{Bodies, Part};
-use crate::state::{Place, State};
+use crate::state::State;
 use std::alloc::{AllocError, Global};
 use syn_entries::entries::{add_entry, close_group, open_group};
 use syn_tokens::delimiter::Delimiter;
@@ -119,16 +119,12 @@ impl Reader {
         ensures empty { OnOk result ((tokens_in self.new.part ≡ []) × (open_in self.new.part ≡ [])) }
         ensures ended { OnOk result (Ends self.old (token_at (at span) entry.now) self.new) }
     {
-        match self.state.place {
-            Place::Body => {
-                add_entry(entry, span, &mut self.part)?;
-                self.close(span)
-            }
-            _ => {
-                self.close(self.last)?;
-                self.keep(entry, span)
-            }
+        if self.state.is_body() {
+            add_entry(entry, span, &mut self.part)?;
+            return self.close(span);
         }
+        self.close(self.last)?;
+        self.keep(entry, span)
     }
 
     /// Keeps what was taken out as a part, and writes a closing brace in its place.
