@@ -1,5 +1,8 @@
 -- Where the lines of a text begin.
-use Rattle.std.proofs.Common.{◌≡◌, ℕ, zero, suc, ◌+◌, ◌-◌, ◌<◌, ◌≤◌, Bool, true, false, cond, List, [], ◌∷◌, ◌++◌, length, get_or, take, drop, nat_eq, refl, sym, ap, ◌∙◌, subst, arith, add-zero}
+use Rattle.std.proofs.Common.{◌≡◌, ℕ, zero, suc, ◌+◌, ◌-◌, ◌<◌, ◌≤◌, Bool, true, false, cond, List, [], ◌∷◌, ◌++◌, length, get_or, take, drop, nat_eq, nat_le, refl, sym, ap, ◌∙◌, subst, arith, add-zero, zero-add}
+use Rattle.std.proofs.Math.Dec.{eqb-suc-zero}
+use Rattle.std.proofs.Math.Numerals.{one-add}
+use Rattle.std.proofs.lemmas.Bool.{le-leb, lt-leb}
 use Rattle.std.specs.Prelude.{count_by}
 use Rattle.syn_places.specs.Lines.{is_newline, newlines, last_line, starts_from, line_starts}
 
@@ -43,8 +46,106 @@ rises_cond true n xs h r = rises_first n xs h r
 rises_cond false n xs h r = r
 
 rises_from : (n : ℕ) (bs : List ℕ) → Rises (starts_from n bs)
-rises_from n [] i j d l m = absurd (omega arith)
+rises_from n [] = λ i j d l m. absurd (omega arith)
 rises_from n (b ∷ bs) = rises_cond (is_newline b) (suc n) (starts_from (suc n) bs) (later (suc n) bs) (rises_from (suc n) bs)
 
 pub rises : (bs : List ℕ) → Rises (line_starts bs)
 rises bs = rises_first 0 (starts_from 0 bs) (later 0 bs) (rises_from 0 bs)
+
+-- THE LINE OF A BYTE
+
+-- so many elements pass a test: those before a place, if all before it pass and none after it
+pub count_split : (p : ℕ → Bool) (xs : List ℕ) (i : ℕ) → i ≤ length xs → ((k d : ℕ) → 0 ≤ k → k < i → p (get_or xs k d) ≡ true) → ((k d : ℕ) → i ≤ k → k < length xs → p (get_or xs k d) ≡ false) → count_by p xs ≡ i
+count_split p [] i l yes no = omega arith
+count_split p (x ∷ xs) zero l yes none =
+    let first : p x ≡ false = none 0 0 (omega arith) (omega arith) in
+    let others : count_by p xs ≡ 0 = count_split p xs 0 (omega arith) (λ k d m h. absurd (omega arith)) (λ k d m h. none (suc k) d (omega arith) (omega arith)) in
+    rw first (omega (arith, others))
+count_split p (x ∷ xs) (suc i) l yes none =
+    let first : p x ≡ true = yes 0 0 (omega arith) (omega arith) in
+    let others : count_by p xs ≡ i = count_split p xs i (omega arith) (λ k d m h. yes (suc k) d (omega arith) (omega arith)) (λ k d m h. none (suc k) d (omega arith) (omega arith)) in
+    rw first (omega (arith, others))
+
+-- the lines that begin up to byte m: one after each newline before it
+count_cond : (v : Bool) (p : ℕ → Bool) (x : ℕ) (xs : List ℕ) → count_by p (cond v (x ∷ xs) xs) ≡ cond v (cond (p x) 1 0) 0 + count_by p xs
+count_cond true p x xs = refl
+count_cond false p x xs = omega arith
+
+newlines_first : (b k : ℕ) (bs : List ℕ) → newlines (take (suc k) (b ∷ bs)) ≡ cond (is_newline b) 1 0 + newlines (take k bs)
+newlines_first b k bs = refl
+
+newlines_none : (bs : List ℕ) → newlines (take 0 bs) ≡ 0
+newlines_none [] = refl
+newlines_none (b ∷ bs) = refl
+
+pub count_begun : (m n : ℕ) (bs : List ℕ) → count_by (λ s. nat_le s m) (starts_from n bs) ≡ newlines (take (m - n) bs)
+count_begun m n [] = none (m - n)
+  where
+    none : (k : ℕ) → 0 ≡ newlines (take k [])
+    none zero = refl
+    none (suc k) = refl
+count_begun m n (b ∷ bs) =
+    count_cond (is_newline b) (λ s. nat_le s m) (suc n) (starts_from (suc n) bs)
+    ∙ ap (λ c. cond (is_newline b) (cond (nat_le (suc n) m) 1 0) 0 + c) (count_begun m (suc n) bs)
+    ∙ counted (m - n) refl
+  where
+    counted : (k : ℕ) → m - n ≡ k → cond (is_newline b) (cond (nat_le (suc n) m) 1 0) 0 + newlines (take (m - suc n) bs) ≡ newlines (take (m - n) (b ∷ bs))
+    counted zero e =
+        let after : nat_le (suc n) m ≡ false = lt-leb (suc n) m (omega arith) in
+        let none : m - suc n ≡ 0 = omega arith in
+        rw (after, none, e) (flat (is_newline b) ∙ sym (newlines_none (b ∷ bs)))
+      where
+        flat : (v : Bool) → cond v 0 0 + newlines (take 0 bs) ≡ 0
+        flat true = newlines_none bs
+        flat false = newlines_none bs
+    counted (suc k) e =
+        let before : nat_le (suc n) m ≡ true = le-leb (suc n) m (omega arith) in
+        let less : m - suc n ≡ k = omega arith in
+        rw (before, less, e) refl
+
+-- THE COLUMN OF A BYTE
+
+-- the line of these bytes begins after so many of them, if n bytes are before them, and is what is left from there on
+pub record Begins (n : ℕ) (starts : List ℕ) (bs : List ℕ) : Type 0 where
+  pub count : ℕ
+  pub start : get_or (n ∷ starts) (newlines bs) 0 ≡ n + count
+  pub rest : drop count bs ≡ last_line bs
+
+begins_none : (n : ℕ) (starts : List ℕ) → Begins n starts []
+begins_none n starts = record { count = 0; start = sym add-zero; rest = refl }
+
+-- no newline is in them
+begins_now : (n b : ℕ) (starts us : List ℕ) → is_newline b ≡ false → newlines us ≡ 0 → Begins n starts (b ∷ us)
+begins_now n b starts us e z = record { count = 0; start = rw (e, z) (sym add-zero); rest = rw (e, z) refl }
+
+-- the last newline is after the first byte
+begins_later : (n b N : ℕ) (starts us : List ℕ) → is_newline b ≡ false → newlines us ≡ suc N → Begins (suc n) starts us → Begins n starts (b ∷ us)
+begins_later n b N starts us e z r =
+    let s : get_or (suc n ∷ starts) (suc N) 0 ≡ suc n + r.count = rw z at r.start in
+    let moved : suc n + r.count ≡ n + suc r.count = omega arith in
+    record { count = suc r.count; start = rw (e, z, zero-add) (s ∙ moved); rest = rw (z, eqb-suc-zero N) r.rest }
+
+-- the first byte is a newline
+begins_newline : (n b : ℕ) (starts us : List ℕ) (N : ℕ) → is_newline b ≡ true → newlines us ≡ N → Begins (suc n) starts us → Begins n (suc n ∷ starts) (b ∷ us)
+begins_newline n b starts us zero e z r =
+    let s : suc n ≡ suc n + r.count = rw z at r.start in
+    let none : r.count ≡ 0 = omega arith in
+    let whole : us ≡ last_line us = ap (λ c. drop c us) (sym none) ∙ r.rest in
+    let one : suc n ≡ n + 1 = omega arith in
+    record { count = 1; start = rw (e, z) one; rest = rw (z, e) refl }
+begins_newline n b starts us (suc N) e z r =
+    let s : get_or (suc n ∷ starts) (suc N) 0 ≡ suc n + r.count = rw z at r.start in
+    let moved : suc n + r.count ≡ n + suc r.count = omega arith in
+    record { count = suc r.count; start = rw (e, z, one-add) (s ∙ moved); rest = rw (z, eqb-suc-zero N) r.rest }
+
+begins_step : (n b : ℕ) (bs us : List ℕ) (v : Bool) (N : ℕ) → is_newline b ≡ v → newlines us ≡ N → Begins (suc n) (starts_from (suc n) bs) us →
+    Begins n (cond v (suc n ∷ starts_from (suc n) bs) (starts_from (suc n) bs)) (b ∷ us)
+begins_step n b bs us true N e z r = begins_newline n b (starts_from (suc n) bs) us N e z r
+begins_step n b bs us false zero e z r = begins_now n b (starts_from (suc n) bs) us e z
+begins_step n b bs us false (suc N) e z r = begins_later n b N (starts_from (suc n) bs) us e z r
+
+pub begins : (n m : ℕ) (bs : List ℕ) → Begins n (starts_from n bs) (take m bs)
+begins n zero [] = begins_none n []
+begins n zero (b ∷ bs) = begins_none n (starts_from n (b ∷ bs))
+begins n (suc m) [] = begins_none n []
+begins n (suc m) (b ∷ bs) = begins_step n b bs (take m bs) (is_newline b) (newlines (take m bs)) refl refl (begins (suc n) m bs)
