@@ -1,3 +1,4 @@
+pub mod Blanks
 pub mod PutBack
 pub mod Reading
 pub mod States

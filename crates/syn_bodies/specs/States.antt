@@ -197,7 +197,10 @@ after_inside p n t =
     if opens t then record { place = p; depth = n + 1 }
     else (if closes t then (if nat_eq n 1 then outside (after_group p) else record { place = p; depth = n - 1 }) else record { place = p; depth = n })
 
-abbrev pub after : State → Token → State
+abbrev pub start : State
+start = outside P.Plain
+
+unfoldable pub after : State → Token → State
 after s t = if nat_eq s.depth 0 then after_outside s.place t else after_inside s.place s.depth t
 
 -- WHAT IS TAKEN OUT
@@ -223,28 +226,3 @@ takes s = is_taken s.place
 abbrev pub is_body : Place → Bool
 is_body P.Body = true
 is_body _ = false
-
-abbrev pub span_of : Token → Span
-span_of (one x s) = s
-span_of (punctuation c j s) = s
-span_of (opened d s) = s
-span_of (closed d s) = s
-
--- what is written at the token that ends a body or a value: a closing brace at that of the body; a closing brace at the last token of the
--- value, and then the token after it
-abbrev pub at_end : Bool → Span → Token → List Token
-at_end is_body last t = if is_body then closed Brace (span_of t) ∷ [] else closed Brace last ∷ t ∷ []
-
--- what is written at a token: the token, if it is in no body or value, and an opening brace where one begins
-abbrev pub written_at : State → State → Span → Token → List Token
-written_at s next last t =
-    if takes s then (if takes next then [] else at_end (is_body s.place) last t) else (if takes next then opened Brace (span_of t) ∷ [] else t ∷ [])
-
--- what is written from a token on, after the token at this span
-abbrev pub written_from : State → Span → List Token → List Token
-written_from s last [] = if takes s then closed Brace last ∷ [] else []
-written_from s last (t ∷ ts) = written_at s (after s t) last t ++ written_from (after s t) (span_of t) ts
-
--- the tokens of a stream with `{ }` in the place of each body and value
-abbrev pub blanked : List Token → List Token
-blanked ts = written_from (outside P.Plain) call_site ts

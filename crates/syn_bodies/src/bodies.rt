@@ -2,7 +2,7 @@
 ghost use Rattle.std.specs.Prelude.{◌≡◌, IfOk, IfErr};
 ghost use Rattle.syn_reader.specs.Flat.{flat};
 ghost use Rattle.syn_tokens.specs.Faults.{out_of_memory};
-ghost use Rattle.syn_bodies.specs.States.{blanked};
+ghost use Rattle.syn_bodies.specs.Blanks.{blanked};
 ghost use Rattle.syn_bodies.specs.PutBack.{put_back};
 
 use crate::bodies::reader::Reader;
@@ -25,7 +25,7 @@ pub struct Bodies {
 /// The body of a function, or the value of a constant.
 #[derive(Drop)]
 pub struct Part {
-    /// The index of its `{` among `stream.entries()`. Its `}` is the next entry.
+    /// The index of its first token among the entries of the stream that it was taken from.
     pub place: usize,
     /// Its tokens, with their spans: of a body with its braces.
     pub tokens: TokenStream,

@@ -8,7 +8,7 @@ ghost use Rattle.syn_tokens.specs.Literals.{kind_of};
 ghost use Rattle.syn_tokens.specs.Punct.{is_joint, is_punct_character};
 ghost use Rattle.syn_tokens.specs.Spans.{at};
 ghost use Rattle.syn_entries.specs.Balance.{Follows, IsInnermost, innermost_closed, open_after, open_in, tokens_in};
-ghost use Rattle.syn_entries.specs.Placed.{token_at};
+ghost use Rattle.syn_entries.specs.Placed.{token_at, token_of};
 
 use std::alloc::AllocError;
 use syn_tokens::delimiter::Delimiter;
@@ -33,6 +33,15 @@ pub fn add_entry(entry: &Entry, span: Span, out: &mut StreamBuilder) -> Result<(
         Token::Open(open) => open_group(open.delimiter, span, out),
         Token::Close(_) => close_group(span, out),
     }
+}
+
+/// The same at its own span.
+pub fn copy_entry(entry: &Entry, out: &mut StreamBuilder) -> Result<(), AllocError>
+    requires { Follows (open_in out.old) (token_of entry.now) }
+    ensures tokens { OnOk result (tokens_in out.new ≡ tokens_in out.old ++ token_of entry.now ∷ []) }
+    ensures groups { OnOk result (open_in out.new ≡ open_after (open_in out.old) (token_of entry.now)) }
+{
+    add_entry(entry, entry.span(), out)
 }
 
 /// Appends a copy of an identifier at this span.

@@ -43,6 +43,18 @@ fn values(rt: HostRuntime) -> Result<(), Fail> {
     Ok(())
 }
 
+/// The place of a part counts what was taken out before it.
+#[test]
+fn places(rt: HostRuntime) -> Result<(), Fail> {
+    let alloc = rt.alloc();
+    let tokens = read_tokens(alloc, "const A: u8 = 1 + 2; fn a() { b; c }")?;
+    let bodies = without_bodies(&tokens)?;
+    assert_eq!(rt; bodies.parts.len(), 2);
+    assert_eq!(rt; bodies.parts[0].place, 5);
+    assert_eq!(rt; bodies.parts[1].place, 13);
+    Ok(())
+}
+
 /// Groups may be nested as deep as memory allows.
 #[test]
 fn deep(rt: HostRuntime) -> Result<(), Fail> {

@@ -38,20 +38,23 @@ pub fn put_back(alloc: Global, bodies: &Bodies) -> syn::Result<TokenStream> {
     let mut out = StreamBuilder::new(alloc);
     let mut parts = bodies.parts.iter();
     let mut part = parts.next();
+    let mut count: usize = 0;
     let mut skipped: usize = 0;
-    for (place, entry) in bodies.stream.entries().iter().enumerate() {
+    for entry in bodies.stream.entries() {
         if skipped > 0 {
             skipped = skipped - 1;
             continue;
         }
         match part {
             Some(here) => {
-                if here.place == place {
+                if here.place == count {
                     out.append(&here.tokens)?;
+                    count += here.tokens.entries().len();
                     skipped = 1;
                     part = parts.next();
                 } else {
                     add_copy(&mut out, entry)?;
+                    count += 1;
                 }
             }
             None => add_copy(&mut out, entry)?,
