@@ -5,7 +5,7 @@ use Rattle.syn_bodies.specs.declared.state.Angles.{Angles}
 use Rattle.syn_bodies.specs.declared.state.Place.{Place}
 use Rattle.syn_bodies.specs.declared.state.Place.TheVariants as P
 use Rattle.syn_bodies.specs.declared.state.State.{State}
-use Rattle.syn_bodies.specs.States.{is_mark, is_any_mark, is_word, is_ident, is_item_word, opens, closes, is_brace, outside, inside, count_after, after_angles, after_constant_word, after_plain, after_pound, after_bang, after_bang_name, after_fn, after_brace, after_head, after_const, after_type_inside, after_type_outside, after_type, after_value, FitsPlace, after_outside, after_group, after_inside, after}
+use Rattle.syn_bodies.specs.States.{is_mark, is_any_mark, is_word, is_ident, is_item_word, opens, closes, is_brace, outside, inside, no_angles, count_after, after_angles, after_constant_word, after_plain, after_pound, after_bang, after_bang_name, after_fn, after_brace, after_head, after_const, after_type_inside, after_type_outside, after_type, after_value, FitsPlace, after_outside, after_group, after_inside, after}
 use Rattle.syn_bodies.specs.Reading.{angles_in, IsCounted}
 
 -- STATES
@@ -61,7 +61,7 @@ module _ (n : ℕ) (t : Token) where
   counted_bang_name = counted_if (n + 1) (opens t) _ _ (at_inside P.BangName n (omega arith)) (counted_plain (n + 1) false t)
 
   counted_fn : IsCounted (after_fn t) (n + 1)
-  counted_fn = counted_if (n + 1) (is_ident t) _ _ (at_outside (P.Head _) (n + 1) (omega arith)) (counted_plain (n + 1) false t)
+  counted_fn = counted_if (n + 1) (is_ident t) _ _ (at_outside (P.Head no_angles) (n + 1) (omega arith)) (counted_plain (n + 1) false t)
 
   counted_brace : (a : Angles) → a.count ≤ n → IsCounted (after_brace a) (n + 1)
   counted_brace a h = counted_if (n + 1) (nat_eq a.count 0) _ _ (at_inside P.Body n (omega arith)) (at_inside (P.Head a) n h)
@@ -77,7 +77,7 @@ module _ (n : ℕ) (t : Token) where
   counted_const =
       counted_if (n + 1) (is_word (codes "mut") t) _ _ (at_outside P.Const (n + 1) (omega arith))
       (counted_if (n + 1) (is_item_word t) _ _ (counted_plain (n + 1) false t)
-      (counted_if (n + 1) (is_ident t) _ _ (at_outside (P.ConstType _) (n + 1) (omega arith)) (counted_plain (n + 1) false t)))
+      (counted_if (n + 1) (is_ident t) _ _ (at_outside (P.ConstType no_angles) (n + 1) (omega arith)) (counted_plain (n + 1) false t)))
 
   counted_type_inside : (a : Angles) → a.count ≤ n → IsCounted (after_type_inside a t) (n + 1)
   counted_type_inside a h =

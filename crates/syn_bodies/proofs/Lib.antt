@@ -1,3 +1,4 @@
 pub mod Counts
 pub mod Machine
 pub mod PutBack
+pub mod Reads

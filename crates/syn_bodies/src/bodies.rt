@@ -52,10 +52,8 @@ fn blank(tokens: &TokenStream) -> std::result::Result<Bodies, AllocError>
     ensures parts { IfOk result (λ b. put_back (flat b.stream) b.parts.items ≡ flat tokens.now) }
 {
     let mut reader = Reader::new(tokens.alloc());
-    let mut rest = tokens.entries();
-    while let Some((entry, others)) = rest.split_first() {
+    for entry in tokens.entries() {
         reader.read(entry)?;
-        rest = others;
     }
     reader.finish()
 }
