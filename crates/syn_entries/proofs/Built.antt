@@ -96,3 +96,6 @@ none_open (g ∷ gs) e = absurd (other _ _ (sym (opened_around [] g gs) ∙ e))
 -- no group is open
 pub none_open_in : (b : Building) → open_in b ≡ [] → b.open_groups ≡ []
 none_open_in b e = none_open b.open_groups e
+
+pub whole_stream : (b : Building) → open_in b ≡ [] → tokens_in b ≡ flat b.stream
+whole_stream b e = rw (none_open_in b e) refl
