@@ -1,5 +1,5 @@
 //! Looking for the holes of templates.
-ghost use Rattle.std.specs.Prelude.{◌≡◌, ◌<◌, ◌+◌, ◌^◌, drop};
+ghost use Rattle.std.specs.Prelude.{◌≡◌, ◌<◌, ◌≤◌, ◌+◌, ◌-◌, ◌^◌, ◌&&◌, length, take, drop, nat_eq};
 ghost use Rattle.syn_grammar.specs.Tokens as grammar;
 ghost use Rattle.syn_entries.specs.Placed.{token_at, tokens_at};
 ghost use Rattle.quote.specs.Holes as holes;
@@ -99,19 +99,25 @@ fn begins(hole: Hole, entries: &[Entry]) -> bool
     }
 }
 
+/// The entries before the rest of them.
+fn front<'a>(entries: &'a [Entry], rest: &[Entry]) -> &'a [Entry]
+    requires { length rest.now ≤ length entries.now }
+    ensures { result.now ≡ take (length entries.now - length rest.now) entries.now }
+{
+    entries.split_at(entries.len() - rest.len()).0
+}
+
 /// The entries before the first such hole, and those after its first two; all entries and none, if there is none.
 pub(super) fn split_hole(entries: &[Entry], hole: Hole) -> (&[Entry], &[Entry])
     ensures before { (s : grammar.Span) → tokens_at s result.0.now ≡ holes.before (begins_with (second hole)) (tokens_at s entries.now) }
     ensures after { (s : grammar.Span) → tokens_at s result.1.now ≡ holes.after (begins_with (second hole)) (tokens_at s entries.now) }
 {
     let mut rest = entries;
-    let mut place: usize = 0;
     while let Some((_, others)) = rest.split_first() {
         if begins(hole, rest) {
-            return (&entries[..place], skip(rest, 2));
+            return (front(entries, rest), skip(rest, 2));
         }
         rest = others;
-        place += 1;
     }
     (entries, rest)
 }
@@ -156,23 +162,35 @@ fn depth_after(depth: usize, entry: &Entry) -> usize
     }
 }
 
+/// Whether it closes the group around the entries, if so many more groups are open in it.
+fn is_last(depth: usize, entry: &Entry) -> bool
+    ensures { (s : grammar.Span) → result ≡ holes.is_last depth (token_at s entry.now) }
+{
+    is_closing(entry) && depth == 0
+}
+
 /// The entries before the delimiter that closes the group around them, and those after it; all entries and none, if there is none.
 fn split_group(entries: &[Entry]) -> (&[Entry], &[Entry])
     ensures inside { (s : grammar.Span) → tokens_at s result.0.now ≡ holes.inside 0 (tokens_at s entries.now) }
     ensures outside { (s : grammar.Span) → tokens_at s result.1.now ≡ holes.outside 0 (tokens_at s entries.now) }
 {
     let mut rest = entries;
-    let mut place: usize = 0;
     let mut depth: usize = 0;
     while let Some((entry, others)) = rest.split_first() {
-        if is_closing(entry) && depth == 0 {
-            return (&entries[..place], others);
+        if is_last(depth, entry) {
+            return (front(entries, rest), others);
         }
         depth = depth_after(depth, entry);
         rest = others;
-        place += 1;
     }
     (entries, rest)
+}
+
+/// Whether it is a `*` that ends a repetition: at least so many entries have to come first.
+fn is_star(left: usize, entry: &Entry) -> bool
+    ensures { (s : grammar.Span) → result ≡ (holes.is_mark 42 (token_at s entry.now) && nat_eq left 0) }
+{
+    is_mark(entry, '*') && left == 0
 }
 
 /// The entries before the first `*` and those after it, if no delimiter comes before it. At least so many are before it.
@@ -180,18 +198,16 @@ fn split_star(entries: &[Entry], least: usize) -> Option<(&[Entry], &[Entry])>
     ensures { (s : grammar.Span) → pair_of s result ≡ holes.star least (tokens_at s entries.now) }
 {
     let mut rest = entries;
-    let mut place: usize = 0;
     let mut left = least;
     while let Some((entry, others)) = rest.split_first() {
         if is_delimiter(entry) {
             return None;
         }
-        if is_mark(entry, '*') && left == 0 {
-            return Some((&entries[..place], others));
+        if is_star(left, entry) {
+            return Some((front(entries, rest), others));
         }
         left = left.saturating_sub(1);
         rest = others;
-        place += 1;
     }
     None
 }

@@ -28,14 +28,27 @@ pub(super) fn write(
 {
     let mut rest = entries;
     while let Some((entry, others)) = rest.split_first() {
-        if others.is_empty() {
-            add_last(entry, span, out)?;
-        } else {
-            add_entry(entry, span, out)?;
-        }
+        add_first(entry, others, span, out)?;
         rest = others;
     }
     Ok(())
+}
+
+/// Appends a copy of an entry that others follow.
+fn add_first(
+    entry: &Entry,
+    others: &[Entry],
+    span: Span,
+    out: &mut StreamBuilder,
+) -> Result<(), AllocError>
+    requires { Follows (open_in out.old) (token_at (at span) entry.now) }
+    ensures tokens { OnOk result (tokens_in out.new ++ apart (tokens_at (at span) others.now) ≡ tokens_in out.old ++ apart (token_at (at span) entry.now ∷ tokens_at (at span) others.now)) }
+    ensures groups { OnOk result (open_in out.new ≡ open_after (open_in out.old) (token_at (at span) entry.now)) }
+{
+    if others.is_empty() {
+        return add_last(entry, span, out);
+    }
+    add_entry(entry, span, out)
 }
 
 /// Appends a copy of an entry. A character of a mark is Alone.
