@@ -1,8 +1,9 @@
 -- Where the lines of a text begin.
-use Rattle.std.proofs.Common.{◌≡◌, ℕ, zero, suc, ◌+◌, ◌-◌, ◌<◌, ◌≤◌, Bool, true, false, cond, List, [], ◌∷◌, ◌++◌, length, get_or, take, drop, nat_eq, nat_le, refl, sym, ap, ◌∙◌, subst, arith, add-zero, zero-add}
+use Rattle.std.proofs.Common.{◌≡◌, ℕ, zero, suc, ◌+◌, ◌-◌, ◌<◌, ◌≤◌, Bool, true, false, cond, List, [], ◌∷◌, ◌++◌, length, get_or, take, drop, nat_eq, nat_le, refl, sym, ap, ◌∙◌, subst, arith, add-zero, zero-add, append-nil, length-take-le}
 use Rattle.std.proofs.Math.Dec.{eqb-suc-zero}
 use Rattle.std.proofs.Math.Numerals.{one-add}
-use Rattle.std.proofs.lemmas.Bool.{le-leb, lt-leb}
+use Rattle.std.proofs.lemmas.Bool.{le-leb, lt-leb, ne_eqb}
+use Rattle.std.proofs.lemmas.List.{take_more}
 use Rattle.std.specs.Prelude.{count_by}
 use Rattle.syn_places.specs.Lines.{is_newline, newlines, last_line, starts_from, line_starts}
 
@@ -19,6 +20,26 @@ module _ (b : ℕ) where
       let e : suc n + length xs ≡ n + length (x ∷ xs) = omega arith in
       ap (λ l. cond (is_newline x) (suc n ∷ l) l) (starts_more (suc n) xs ∙ ap (λ m. starts_from (suc n) xs ++ starts_from m (b ∷ [])) e)
       ∙ starts_cond (is_newline x) (suc n) (starts_from (suc n) xs) (starts_from (n + length (x ∷ xs)) (b ∷ []))
+
+starts_next : (bs : List ℕ) (i d : ℕ) → i < length bs → line_starts (take (i + 1) bs) ≡ line_starts (take i bs) ++ starts_from i (get_or bs i d ∷ [])
+starts_next bs i d h =
+    let size : length (take i bs) ≡ i = length-take-le i bs (omega (arith, h)) in
+    let at : 0 + length (take i bs) ≡ i = omega (arith, size) in
+    ap line_starts (take_more bs i d h) ∙ ap (λ l. 0 ∷ l) (starts_more (get_or bs i d) 0 (take i bs))
+    ∙ ap (λ m. line_starts (take i bs) ++ starts_from m (get_or bs i d ∷ [])) at
+
+-- a newline
+pub starts_newline : (bs : List ℕ) (i d : ℕ) → i < length bs → get_or bs i d ≡ 10 → line_starts (take (i + 1) bs) ≡ line_starts (take i bs) ++ (i + 1) ∷ []
+starts_newline bs i d h e =
+    let one : suc i ≡ i + 1 = omega arith in
+    starts_next bs i d h ∙ ap (λ b. line_starts (take i bs) ++ starts_from i (b ∷ [])) e ∙ ap (λ m. line_starts (take i bs) ++ m ∷ []) one
+
+-- another byte
+pub starts_other : (bs : List ℕ) (i d : ℕ) → i < length bs → (get_or bs i d ≡ 10 → ⊥) → line_starts (take (i + 1) bs) ≡ line_starts (take i bs)
+starts_other bs i d h n =
+    let none : is_newline (get_or bs i d) ≡ false = ne_eqb (get_or bs i d) 10 n in
+    let here : starts_from i (get_or bs i d ∷ []) ≡ [] = rw none refl in
+    starts_next bs i d h ∙ ap (λ l. line_starts (take i bs) ++ l) here ∙ append-nil (line_starts (take i bs))
 
 -- IN THEIR ORDER
 
@@ -149,3 +170,25 @@ begins n zero [] = begins_none n []
 begins n zero (b ∷ bs) = begins_none n (starts_from n (b ∷ bs))
 begins n (suc m) [] = begins_none n []
 begins n (suc m) (b ∷ bs) = begins_step n b bs (take m bs) (is_newline b) (newlines (take m bs)) refl refl (begins (suc n) m bs)
+
+-- A BYTE OF THE TEXT
+
+-- its line is the last one that begins at it or before it
+pub line_is : (text : List ℕ) (byte i : ℕ) → i ≤ length (line_starts text) → ((k d : ℕ) → 0 ≤ k → k < i → nat_le (get_or (line_starts text) k d) byte ≡ true) →
+    ((k d : ℕ) → i ≤ k → k < length (line_starts text) → nat_le (get_or (line_starts text) k d) byte ≡ false) → i ≡ newlines (take byte text) + 1
+line_is text byte i l yes none =
+    let starts = line_starts text in
+    let before : count_by (λ s. nat_le s byte) starts ≡ i = count_split (λ s. nat_le s byte) starts i l yes none in
+    let first : nat_le 0 byte ≡ true = le-leb 0 byte (omega arith) in
+    let others = count_begun byte 0 text in
+    let all : count_by (λ s. nat_le s byte) starts ≡ count_by (λ s. nat_le s byte) (starts_from 0 text) + 1 = rw first (omega arith) in
+    let same : byte - 0 ≡ byte = omega arith in
+    sym before ∙ all ∙ ap (λ n. n + 1) others ∙ ap (λ n. newlines (take n text) + 1) same
+
+-- that line, up to the byte, is what is left of the text from the beginning of the line
+pub line_left : (text : List ℕ) (byte line : ℕ) → line ≡ newlines (take byte text) + 1 → drop (get_or (line_starts text) (line - 1) 0) (take byte text) ≡ last_line (take byte text)
+line_left text byte line e =
+    let b = begins 0 byte text in
+    let index : line - 1 ≡ newlines (take byte text) = omega (arith, e) in
+    let start : get_or (line_starts text) (line - 1) 0 ≡ b.count = ap (λ i. get_or (line_starts text) i 0) index ∙ b.start ∙ zero-add in
+    ap (λ n. drop n (take byte text)) start ∙ b.rest

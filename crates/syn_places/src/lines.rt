@@ -1,5 +1,5 @@
 //! Lines and columns.
-ghost use Rattle.std.specs.Prelude.{◌≡◌, ◌+◌, count_by, drop, take, IfOk};
+ghost use Rattle.std.specs.Prelude.{◌≡◌, ◌<◌, ◌≤◌, ◌+◌, ◌^◌, count_by, drop, length, take, IfOk};
 ghost use Rattle.syn_places.specs.Lines.{begins_character, last_line, line_starts, newlines};
 ghost use Rattle.syn_places.specs.Reports.{source_of};
 
@@ -39,9 +39,11 @@ fn starts_of(alloc: Global, bytes: &[u8]) -> Result<Vec<usize>, AllocError>
 {
     let mut starts = Vec::new(alloc);
     starts.push(0)?;
-    for (place, byte) in bytes.iter().enumerate() {
+    let mut place: usize = 0;
+    for byte in bytes {
+        place += 1;
         if *byte == b'\n' {
-            starts.push(place + 1)?;
+            starts.push(place)?;
         }
     }
     Ok(starts)
@@ -65,9 +67,17 @@ fn begins_character(byte: u8) -> bool
 
 /// The number of characters that begin in these bytes.
 fn characters(bytes: &[u8]) -> usize
-    ensures { result ≡ count_by begins_character bytes.now }
+    ensures count { result ≡ count_by begins_character bytes.now }
+    ensures few { result ≤ length bytes.now }
+    ensures small { result < 2 ^ 63 }
 {
-    bytes.iter().filter(|byte| begins_character(**byte)).count()
+    let mut count: usize = 0;
+    for byte in bytes {
+        if begins_character(*byte) {
+            count += 1;
+        }
+    }
+    count
 }
 
 impl<'a> LineIndex<'a> {
@@ -86,6 +96,7 @@ impl<'a> LineIndex<'a> {
     pub fn line_column(&self, byte: usize) -> LineColumn
         ensures line { result.line ≡ newlines (take byte self.now) + 1 }
         ensures column { result.column ≡ count_by begins_character (last_line (take byte self.now)) }
+        ensures small { result.column < 2 ^ 63 }
     {
         let line = self.starts.partition_point(|start| *start <= byte);
         let start = match self.starts.get(line.saturating_sub(1)) {

@@ -1,9 +1,9 @@
 //! Errors as a compiler shows them.
-ghost use Rattle.std.specs.Prelude.{◌≡◌, ◌<◌, ◌+◌, ◌^◌, ◌++◌, IfOk, OnOk, replicate, string_bytes};
+ghost use Rattle.std.specs.Prelude.{◌≡◌, ◌<◌, ◌+◌, ◌-◌, ◌^◌, ◌++◌, IfOk, OnOk, replicate, string_bytes, nat_lt, if◌then◌else◌};
 ghost use Rattle.syn_tokens.specs.Faults.{fault_of};
-ghost use Rattle.syn_places.specs.Reports.{carets, columns, fault_report, lines_of, location, margin, marks, report, shown};
+ghost use Rattle.syn_places.specs.Reports.{carets, columns, fault_report, lines_of, location, margin, mark_at, marks, report, shown, shown_character, some_caret};
 
-use crate::lines::LineIndex;
+use crate::lines::{LineColumn, LineIndex};
 use std::alloc::{AllocError, Global};
 use std::fmt::Write as _;
 use syn_tokens::error::{Error, Fault};
@@ -33,50 +33,90 @@ fn add_times(lines: &mut String, character: u8, count: usize) -> Result<(), Allo
     Ok(())
 }
 
-/// Adds a line of a source, with four spaces for each tab.
+/// Adds a character as it is shown: four spaces for a tab.
+fn add_character(lines: &mut String, character: char) -> Result<(), AllocError>
+    ensures { OnOk result (string_bytes lines.new ≡ string_bytes lines.old ++ shown_character character) }
+{
+    if character == '\t' {
+        return lines.push_str("    ");
+    }
+    lines.push(character)
+}
+
+/// Adds a line of a source.
 fn add_source(lines: &mut String, source: &str) -> Result<(), AllocError>
     ensures { OnOk result (string_bytes lines.new ≡ string_bytes lines.old ++ shown source.now) }
 {
     for character in source.chars() {
-        if character == '\t' {
-            lines.push_str("    ")?;
-        } else {
-            lines.push(character)?;
-        }
+        add_character(lines, character)?;
     }
     Ok(())
 }
 
-/// Adds marks below the characters of a line whose indices are from one number up to another, one in each column.
-fn add_marks(
-    lines: &mut String,
-    source: &str,
+/// Which characters of a line are marked, by their indices, and with what: an ASCII character.
+#[derive(Clone, Copy)]
+struct Marks {
     mark: u8,
     from: usize,
     to: usize,
-) -> Result<(), AllocError>
-    requires { mark < 128 }
-    ensures { OnOk result (string_bytes lines.new ≡ string_bytes lines.old ++ marks mark from to source.now) }
-{
-    for (place, character) in source.chars().enumerate() {
-        if from <= place && place < to {
-            add_times(lines, mark, columns(character))?;
+    ghost is_ascii: { mark < 128 },
+}
+
+impl Marks {
+    /// Adds marks below the character of this index, one in each of its columns.
+    fn add_below(self, lines: &mut String, place: usize, character: char) -> Result<(), AllocError>
+        ensures { OnOk result (string_bytes lines.new ≡ string_bytes lines.old ++ mark_at self.mark self.from self.to (place, character)) }
+    {
+        if place < self.from {
+            return Ok(());
         }
+        if self.to <= place {
+            return Ok(());
+        }
+        add_times(lines, self.mark, columns(character))
     }
-    Ok(())
+
+    /// Adds marks below the characters of a line.
+    fn add_below_line(self, lines: &mut String, source: &str) -> Result<(), AllocError>
+        ensures { OnOk result (string_bytes lines.new ≡ string_bytes lines.old ++ marks self.mark self.from self.to source.now) }
+    {
+        let mut place: usize = 0;
+        for character in source.chars() {
+            self.add_below(lines, place, character)?;
+            place += 1;
+        }
+        Ok(())
+    }
+}
+
+/// Adds marks below the characters of a line, and one caret if there is none.
+fn add_some(lines: &mut String, carets: Marks, source: &str) -> Result<(), AllocError>
+    ensures { OnOk result (string_bytes lines.new ≡ string_bytes lines.old ++ some_caret (marks carets.mark carets.from carets.to source.now)) }
+{
+    let before = lines.len();
+    carets.add_below_line(lines, source)?;
+    if before < lines.len() {
+        return Ok(());
+    }
+    lines.push('^')
 }
 
 /// Adds spaces up to one column of a line, and carets up to another; one caret if there is none.
 fn add_carets(lines: &mut String, source: &str, from: usize, to: usize) -> Result<(), AllocError>
     ensures { OnOk result (string_bytes lines.new ≡ string_bytes lines.old ++ carets from to source.now) }
 {
-    add_marks(lines, source, b' ', 0, from)?;
-    let before = lines.len();
-    add_marks(lines, source, b'^', from, to)?;
-    if lines.len() == before {
-        lines.push('^')?;
-    }
-    Ok(())
+    let spaces = Marks {
+        mark: b' ',
+        from: 0,
+        to: from,
+    };
+    spaces.add_below_line(lines, source)?;
+    let carets = Marks {
+        mark: b'^',
+        from,
+        to,
+    };
+    add_some(lines, carets, source)
 }
 
 /// Adds the space before what is shown beside the number of a line.
@@ -93,7 +133,7 @@ fn add_location(
     number: &str,
     column: usize,
 ) -> Result<(), AllocError>
-    requires { column + 1 < 2 ^ 64 }
+    requires { column < 2 ^ 63 }
     ensures { OnOk result (string_bytes lines.new ≡ string_bytes lines.old ++ location name.now number.now column) }
 {
     add_margin(lines, number)?;
@@ -122,6 +162,16 @@ fn add_lines(
     lines.push('\n')
 }
 
+/// The column at which carets end on the first line of a fault, which goes from one place to another.
+fn end_on_line(first: LineColumn, last: LineColumn) -> usize
+    ensures { result ≡ (if nat_lt first.line last.line then 2 ^ 64 - 1 else last.column) }
+{
+    if first.line < last.line {
+        return usize::MAX;
+    }
+    last.column
+}
+
 /// Adds a fault: its message, where it is, its line, and carets below what is at fault there.
 fn add_fault(
     lines: &mut String,
@@ -138,12 +188,13 @@ fn add_fault(
     let number = format!(in alloc; "{}", first.line)?;
     writeln!(lines, "error: {}", fault.text)?;
     add_location(lines, name, number.as_str(), first.column)?;
-    let to = if first.line < last.line {
-        usize::MAX
-    } else {
-        last.column
-    };
-    add_lines(lines, number.as_str(), source, first.column, to)
+    add_lines(
+        lines,
+        number.as_str(),
+        source,
+        first.column,
+        end_on_line(first, last),
+    )
 }
 
 /// An error as rustc shows it: for each fault its message, where it is in the text of this name, its line, and carets below what is
