@@ -1,3 +1,4 @@
 pub mod Finding
 pub mod Parts
+pub mod Recording
 pub mod Writing

@@ -1,5 +1,5 @@
 //! Templates that are filled hole by hole. The macros write the calls; they are public for that alone.
-ghost use Rattle.std.specs.Prelude.{◌≡◌, [], ◌∷◌, ◌++◌, true, codes, IfOk, IfErr, OnOk, OnSome, if◌then◌else◌};
+ghost use Rattle.std.specs.Prelude.{◌≡◌, [], ◌∷◌, ◌++◌, Some, true, codes, IfNone, IfOk, IfErr, OnSome, if◌then◌else◌};
 ghost use Rattle.syn_grammar.specs.Grammar.{print};
 ghost use Rattle.syn_reader.specs.Flat.{flat};
 ghost use Rattle.syn_reader.specs.Refusals.{IsRefusal};
@@ -7,14 +7,14 @@ ghost use Rattle.syn_reader.specs.Spelling.{Spells};
 ghost use Rattle.syn_tokens.specs.Faults.{out_of_memory, syntax_error};
 ghost use Rattle.syn_tokens.specs.Idents.{is_identifier};
 ghost use Rattle.syn_tokens.specs.Spans.{at};
-ghost use Rattle.syn_entries.specs.Balance.{Balances, tokens_in, open_in};
+ghost use Rattle.syn_entries.specs.Balance.{Balances, open_in};
 ghost use Rattle.syn_entries.specs.Placed.{all_placed, tokens_at};
 ghost use Rattle.quote.specs.Holes.{apart, name, before, after, repetition_in};
-ghost use Rattle.quote.specs.Quotes.{adds, joins};
+ghost use Rattle.quote.specs.Quotes.{adds, joins, written_in};
 
 use crate::quoting::parts::{Hole, split_hole, split_repetition};
 use crate::quoting::repetition::Repetition;
-use crate::quoting::write::{write, write_with};
+use crate::quoting::written::Written;
 use std::alloc::{AllocError, Global};
 use std::marker::Model;
 use syn_reader::reader::read_tokens;
@@ -23,12 +23,12 @@ use syn_tokens::ident::Ident;
 use syn_tokens::print::ToTokens;
 use syn_tokens::span::Span;
 use syn_tokens::stream::TokenStream;
-use syn_tokens::stream::builder::StreamBuilder;
 use syn_tokens::stream::entry::Entry;
 
 mod parts;
 pub mod repetition;
 mod write;
+mod written;
 
 /// The span of tokens that are in no text: 0 to 0.
 pub fn call_site() -> Span
@@ -68,8 +68,7 @@ pub struct Quoting<'a> {
     left: &'a [Entry],
     /// The span of the template's own tokens.
     span: Span,
-    out: StreamBuilder,
-    refused: Option<AllocError>,
+    written: Written,
 }
 
 impl<'a> Model for Quoting<'a> {
@@ -81,9 +80,9 @@ impl<'a> Model for Quoting<'a> {
 
     ghost Value = { Quote };
 
-    ghost view = { λ q. record { written = written_in q.refused q.out; left = tokens_at (at q.span) q.left.now } };
+    ghost view = { λ q. record { written = written_in q.written.refused q.written.out; left = tokens_at (at q.span) q.left.now } };
 
-    ghost invariant = { λ q. IfNone q.refused (Balances (open_in q.out) (tokens_at (at q.span) q.left.now)) };
+    ghost invariant = { λ q. IfNone q.written.refused (Balances (open_in q.written.out) (tokens_at (at q.span) q.left.now)) };
 }
 
 impl<'a> Quoting<'a> {
@@ -102,8 +101,7 @@ impl<'a> Quoting<'a> {
         Quoting {
             left,
             span,
-            out: StreamBuilder::new(alloc),
-            refused: None,
+            written: Written::new(alloc),
         }
     }
 
@@ -114,12 +112,8 @@ impl<'a> Quoting<'a> {
     {
         let (before, after) = split_hole(self.left, Hole::Name);
         self.left = after;
-        if self.refused.is_none() {
-            match write_with(before, self.span, tree, &mut self.out) {
-                Ok(()) => {}
-                Err(error) => self.refused = Some(error),
-            }
-        }
+        self.written.add(before, self.span);
+        self.written.print(tree);
     }
 
     /// Writes what is before the next `#( .. )*` of the template, or before the next one with a separator, and goes on after it. The
@@ -131,13 +125,13 @@ impl<'a> Quoting<'a> {
     {
         let parts = split_repetition(self.left, is_separated);
         self.left = parts.after;
-        if self.refused.is_none() {
-            match write(parts.before, self.span, &mut self.out) {
-                Ok(()) => {}
-                Err(error) => self.refused = Some(error),
-            }
-        }
-        Repetition::new(parts.content, parts.separator, self.span, self.out.alloc())
+        self.written.add(parts.before, self.span);
+        Repetition::new(
+            parts.content,
+            parts.separator,
+            self.span,
+            self.written.alloc(),
+        )
     }
 
     /// Appends what was written of a repetition.
@@ -145,30 +139,21 @@ impl<'a> Quoting<'a> {
         ensures left { self.new.left ≡ self.old.left }
         ensures written { OnSome self.new.written (self.new.written ≡ joins self.old.written repetition.written) }
     {
-        if self.refused.is_none() {
-            match add_repetition(repetition, &mut self.out) {
-                Ok(()) => {}
-                Err(error) => self.refused = Some(error),
-            }
-        }
+        self.written.append(repetition.complete());
     }
 
-    /// Writes the rest of the template. The result is the builder that holds all of it.
-    fn complete(self) -> std::result::Result<StreamBuilder, AllocError>
-        ensures closed { IfOk result (λ b. b.open_groups ≡ []) }
-        ensures tokens { IfOk result (λ b. Some (flat b.stream) ≡ adds self.written (apart self.left)) }
+    /// Writes the rest of the template. The result is all that is written.
+    fn complete(self) -> Written
+        ensures closed { IfNone result.refused (open_in result.out ≡ []) }
+        ensures tokens { OnSome (written_in result.refused result.out) (written_in result.refused result.out ≡ adds self.written (apart self.left)) }
     {
         let Quoting {
             left,
             span,
-            mut out,
-            refused,
+            mut written,
         } = self;
-        if let Some(error) = refused {
-            return Err(error);
-        }
-        write(left, span, &mut out)?;
-        Ok(out)
+        written.add(left, span);
+        written
     }
 
     /// The filled template: what was written, and then what is left of the template. Only memory can be refused.
@@ -176,18 +161,7 @@ impl<'a> Quoting<'a> {
         ensures stream { IfOk result (λ s. Some (flat s) ≡ adds self.written (apart self.left)) }
         ensures memory { IfErr result (λ e. e ≡ out_of_memory) }
     {
-        Ok(self.complete()?.into_stream())
+        let out = self.complete().finish()?;
+        Ok(out.into_stream())
     }
-}
-
-/// Appends the rounds of a repetition.
-#[tactic(auto, using(syn_entries::proofs::Built::added_tokens, syn_entries::proofs::Built::added_groups))]
-fn add_repetition(
-    repetition: Repetition<'_>,
-    out: &mut StreamBuilder,
-) -> std::result::Result<(), AllocError>
-    ensures tokens { OnOk result (Some (tokens_in out.new) ≡ joins (Some (tokens_in out.old)) repetition.written) }
-    ensures groups { OnOk result (open_in out.new ≡ open_in out.old) }
-{
-    out.append_built(repetition.complete()?)
 }

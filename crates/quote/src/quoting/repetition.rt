@@ -1,18 +1,16 @@
 //! Repetitions in templates.
-ghost use Rattle.std.specs.Prelude.{◌≡◌, [], ◌++◌, None, Some, IfOk, OnOk, OnSome, false};
-ghost use Rattle.syn_reader.specs.Flat.{flat};
+ghost use Rattle.std.specs.Prelude.{◌≡◌, [], Some, IfNone, OnSome, false, true, if◌then◌else◌};
 ghost use Rattle.syn_tokens.specs.Spans.{at};
-ghost use Rattle.syn_entries.specs.Balance.{Balances, open_in, tokens_in};
+ghost use Rattle.syn_entries.specs.Balance.{Balances, open_in};
 ghost use Rattle.syn_entries.specs.Placed.{tokens_at};
 ghost use Rattle.quote.specs.Holes.{apart};
-ghost use Rattle.quote.specs.Quotes.{adds, joins, between};
+ghost use Rattle.quote.specs.Quotes.{adds, joins, between, written_in};
 
 use crate::quoting::Quoting;
-use crate::quoting::write::write;
-use std::alloc::{AllocError, Global};
+use crate::quoting::written::Written;
+use std::alloc::Global;
 use std::marker::Model;
 use syn_tokens::span::Span;
-use syn_tokens::stream::builder::StreamBuilder;
 use syn_tokens::stream::entry::Entry;
 
 /// A repetition of a template: its content, the separator before its `*`, and the rounds that are written so far. Once a request for
@@ -24,22 +22,21 @@ pub struct Repetition<'a> {
     /// The span of the template's own tokens.
     span: Span,
     is_first: bool,
-    out: StreamBuilder,
-    refused: Option<AllocError>,
+    written: Written,
 }
 
 impl<'a> Model for Repetition<'a> {
     ghost use Rattle.std.specs.Prelude.{◌≡◌, [], IfNone};
     ghost use Rattle.syn_tokens.specs.Spans.{at};
-    ghost use Rattle.syn_entries.specs.Balance.{Balances};
+    ghost use Rattle.syn_entries.specs.Balance.{Balances, open_in};
     ghost use Rattle.syn_entries.specs.Placed.{tokens_at};
     ghost use Rattle.quote.specs.Quotes.{Repeated, written_in};
 
     ghost Value = { Repeated };
 
-    ghost view = { λ r. record { content = tokens_at (at r.span) r.content.now; separator = tokens_at (at r.span) r.separator.now; is_first = r.is_first; written = written_in r.refused r.out } };
+    ghost view = { λ r. record { content = tokens_at (at r.span) r.content.now; separator = tokens_at (at r.span) r.separator.now; is_first = r.is_first; written = written_in r.written.refused r.written.out } };
 
-    ghost invariant = { λ r. Balances [] (tokens_at (at r.span) r.content.now) × Balances [] (tokens_at (at r.span) r.separator.now) × IfNone r.refused (r.out.open_groups ≡ []) };
+    ghost invariant = { λ r. Balances [] (tokens_at (at r.span) r.content.now) × Balances [] (tokens_at (at r.span) r.separator.now) × IfNone r.written.refused (open_in r.written.out ≡ []) };
 }
 
 impl<'a> Repetition<'a> {
@@ -59,8 +56,7 @@ impl<'a> Repetition<'a> {
             separator,
             span,
             is_first: true,
-            out: StreamBuilder::new(alloc),
-            refused: None,
+            written: Written::new(alloc),
         }
     }
 
@@ -68,7 +64,7 @@ impl<'a> Repetition<'a> {
     pub fn begin(&self) -> Quoting<'a>
         ensures { result ≡ record { written = Some []; left = self.now.content } }
     {
-        Quoting::of_entries(self.content, self.span, self.out.alloc())
+        Quoting::of_entries(self.content, self.span, self.written.alloc())
     }
 
     /// Writes a round: the separator, unless it is the first round, then what was written of the round, and the rest of its template.
@@ -77,41 +73,28 @@ impl<'a> Repetition<'a> {
         ensures same { (self.new.content ≡ self.old.content) × (self.new.separator ≡ self.old.separator) }
         ensures written { OnSome self.new.written (self.new.written ≡ joins (adds self.old.written (between self.old.is_first self.old.separator)) (adds round.written (apart round.left))) }
     {
-        let separator = if self.is_first { &[] } else { self.separator };
+        let separator = between(self.is_first, self.separator);
         self.is_first = false;
-        if self.refused.is_none() {
-            match add_round(separator, self.span, round, &mut self.out) {
-                Ok(()) => {}
-                Err(error) => self.refused = Some(error),
-            }
-        }
+        self.written.add(separator, self.span);
+        self.written.append(round.complete());
     }
 
-    /// The builder that holds all rounds.
-    pub(super) fn complete(self) -> Result<StreamBuilder, AllocError>
-        ensures closed { IfOk result (λ b. b.open_groups ≡ []) }
-        ensures tokens { IfOk result (λ b. Some (flat b.stream) ≡ self.written) }
+    /// All rounds.
+    pub(super) fn complete(self) -> Written
+        ensures closed { IfNone result.refused (open_in result.out ≡ []) }
+        ensures tokens { written_in result.refused result.out ≡ self.written }
     {
-        let Repetition { out, refused, .. } = self;
-        match refused {
-            Some(error) => Err(error),
-            None => Ok(out),
-        }
+        let Repetition { written, .. } = self;
+        written
     }
 }
 
-/// Appends the separator and a round.
-fn add_round(
-    separator: &[Entry],
-    span: Span,
-    round: Quoting<'_>,
-    out: &mut StreamBuilder,
-) -> Result<(), AllocError>
-    requires separator { Balances [] (tokens_at (at span) separator.now) }
-    requires closed { out.old.open_groups ≡ [] }
-    ensures closed { OnOk result (out.new.open_groups ≡ []) }
-    ensures tokens { OnOk result (Some (tokens_in out.new) ≡ joins (Some (tokens_in out.old ++ apart (tokens_at (at span) separator.now))) (adds round.written (apart round.left))) }
+/// What is written between rounds: the separator, but nothing before the first one.
+fn between(is_first: bool, separator: &[Entry]) -> &[Entry]
+    ensures { result.now ≡ (if is_first then [] else separator.now) }
 {
-    write(separator, span, out)?;
-    out.append_built(round.complete()?)
+    if is_first {
+        return &[];
+    }
+    separator
 }

@@ -9,7 +9,6 @@ ghost use Rattle.quote.specs.Holes.{apart};
 
 use std::alloc::AllocError;
 use syn_entries::entries::{add_entry, add_mark};
-use syn_tokens::print::ToTokens;
 use syn_tokens::punct::Spacing;
 use syn_tokens::span::Span;
 use syn_tokens::stream::builder::StreamBuilder;
@@ -64,20 +63,4 @@ fn add_last(entry: &Entry, span: Span, out: &mut StreamBuilder) -> Result<(), Al
         Token::Open(_) => add_entry(entry, span, out),
         Token::Close(_) => add_entry(entry, span, out),
     }
-}
-
-/// Appends the entries before a hole, and the tokens of the tree in its place.
-#[tactic(auto, using(syn_entries::proofs::Built::added_tokens, syn_entries::proofs::Built::added_groups))]
-pub(super) fn write_with<T: ToTokens>(
-    before: &[Entry],
-    span: Span,
-    tree: &T,
-    out: &mut StreamBuilder,
-) -> Result<(), AllocError>
-    requires { AllFollow (open_in out.old) (tokens_at (at span) before.now) }
-    ensures tokens { OnOk result (tokens_in out.new ≡ tokens_in out.old ++ (apart (tokens_at (at span) before.now) ++ flat (print (T.syntax tree.now)))) }
-    ensures groups { OnOk result (open_in out.new ≡ open_after_all (open_in out.old) (tokens_at (at span) before.now)) }
-{
-    write(before, span, out)?;
-    tree.print_in(out)
 }
