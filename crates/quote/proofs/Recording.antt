@@ -70,15 +70,15 @@ module _ {E : Type 0} where
       ∙ ap (λ l. Some (tokens_in old ++ l)) (sym (whole_stream built c))
       ∙ ap (λ o. joins (Some (tokens_in old)) (written_in o built)) (sym e)
 
-  -- WHAT FOLLOWS
+-- WHAT FOLLOWS
 
-  -- tokens after what was written, and then more
-  pub adds_more : (o : Option (List Token)) (p : Option (List Token)) (q : Option (List Token)) (as bs : List Token) → OnSome p (p ≡ adds o as) → OnSome q (q ≡ adds p bs) → OnSome q (q ≡ adds o (as ++ bs))
-  adds_more o None None as bs h k = tt
-  adds_more o None (Some ws) as bs h k = absurd (cc)
-  adds_more o (Some vs) None as bs h k = tt
-  adds_more o (Some vs) (Some ws) as bs h k = k ∙ ap (λ x. adds x bs) h ∙ added_twice o
-    where
-      added_twice : (x : Option (List Token)) → adds (adds x as) bs ≡ adds x (as ++ bs)
-      added_twice None = refl
-      added_twice (Some us) = ap (λ l. Some l) (append_assoc us as bs)
+-- tokens after what was written, and then more
+pub adds_more : (o p q : Option (List Token)) (ts us : List Token) → OnSome p (p ≡ adds o ts) → OnSome q (q ≡ adds p us) → OnSome q (q ≡ adds o (ts ++ us))
+adds_more o None None ts us h k = tt
+adds_more o None (Some ws) ts us h k = absurd (cc)
+adds_more o (Some vs) None ts us h k = tt
+adds_more o (Some vs) (Some ws) ts us h k = k ∙ ap (λ x. adds x us) h ∙ added_twice o
+  where
+    added_twice : (x : Option (List Token)) → adds (adds x ts) us ≡ adds x (ts ++ us)
+    added_twice None = refl
+    added_twice (Some vs) = ap (λ l. Some l) (append_assoc vs ts us)
