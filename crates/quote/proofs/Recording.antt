@@ -1,6 +1,6 @@
 -- What is written as long as memory is there.
 use Rattle.std.proofs.Common.{◌≡◌, Bool, true, false, List, [], ◌∷◌, ◌++◌, Option, Some, None, Result, Ok, Err, is_some, IfNone, OnOk, OnSome, refl, sym, ap, ◌∙◌, subst, append_assoc}
-use Rattle.core.specs.Result.{result_err}
+use Rattle.std.specs.Result.{result_err}
 use Rattle.syn_grammar.specs.Tokens.{Stream}
 use Rattle.syn_tokens.specs.Building.{Building, added}
 use Rattle.syn_reader.specs.Flat.{Token, flat}
