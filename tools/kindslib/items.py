@@ -1,4 +1,4 @@
-"""What `list` of syn_answers and syn_canon knows of each kind of item: its rule, its word, where its name is, what a guess goes by, and
+"""What lists of items (syn_answers, syn_texts) know of each kind of item: its rule, its word, where its name is, what a guess goes by, and
 in which order the kinds are tried."""
 import re
 
@@ -209,7 +209,7 @@ fn word_of(kind: ItemKind) -> &'static str
 
 
 def listing(source, rows, table, crates):
-    """The parts of syn_item, syn_answers and syn_canon that go by the kinds of items."""
+    """The parts of syn_item, syn_answers and syn_texts that go by the kinds of items."""
     kinds, table = item_kinds(source, rows), table.read_text()
     parts = {
         "syn_item/specs/Items.antt": [item_imports(kinds), item_syntax(kinds)],
@@ -222,7 +222,7 @@ def listing(source, rows, table, crates):
         "syn_answers/src/guess.rt": [known_by_word(kinds)],
         "syn_answers/specs/Listing.antt": [spec_rules(kinds)],
         "syn_answers/proofs/Listing.antt": [are_kinds(kinds), kept(kinds, table)],
-        "syn_canon/specs/Lines.antt": [word_imports(table), spec_words(kinds)],
-        "syn_canon/src/listing.rt": [word_of(kinds)],
+        "syn_texts/specs/Lines.antt": [word_imports(table), spec_words(kinds)],
+        "syn_texts/src/listing.rt": [word_of(kinds)],
     }
     return {crates / path: with_parts(crates / path, texts) for path, texts in parts.items()}

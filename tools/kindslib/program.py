@@ -1,4 +1,4 @@
-"""The kinds that have canonical prints, and the program's list of them."""
+"""The kinds that have canonical prints, and the list of those that the program and the library for C know by words."""
 from .impls import WRITTEN, import_lines
 from .source import camel
 
@@ -33,57 +33,48 @@ ghost use Rattle.syn_grammar.specs.Rules as rules;
 {imports(source, "crate", [name for name, _ in types], [("crate::lawful", "Canonical")])}{blocks}"""
 
 
-def kind_enum(kinds):
-    variants = "".join(f"    {camel(word)},\n" for word, _, _ in kinds)
-    arms = "".join(f'            "{word}" => Some(Kind::{camel(word)}),\n' for word, _, _ in kinds)
-    return f"""//! {WRITTEN}
-//!
-//! What a text may spell.
-ghost use Rattle.std.specs.Prelude.{{◌≡◌, MatchOption}};
-ghost use Rattle.syn_canon.specs.Kinds.{{word_of, NoKind}};
-
-/// What a text may spell.
-#[derive(Clone, Copy, Debug, PartialEq, Eq)]
-pub(crate) enum Kind {{
-{variants}}}
-
-impl Kind {{
-    /// The kind that the word is, if it is one.
-    pub(crate) fn from_word(word: &str) -> Option<Kind>
-        ensures {{ MatchOption result (NoKind word.now) (λ kind. word.now ≡ word_of kind) }}
-    {{
-        match word {{
-{arms}            _ => None,
-        }}
-    }}
-}}
-"""
-
-
 def constant(rule):
     """The constant of a rule."""
     return rule.replace("-", "_").upper()
 
 
-def dispatch(kinds):
-    arms = "".join(f"        Kind::{camel(word)} => Rule::{constant(rule)},\n" for word, _, rule in kinds)
+def kind_enum(kinds):
+    """The kinds, by their words and by their rules."""
+    variants = "".join(f"    {camel(word)},\n" for word, _, _ in kinds)
+    words = "".join(f'            b"{word}" => Some(Kind::{camel(word)}),\n' for word, _, _ in kinds)
+    rules = "".join(f"            Kind::{camel(word)} => Rule::{constant(rule)},\n" for word, _, rule in kinds)
     return f"""//! {WRITTEN}
 //!
-//! By which rule each kind is read.
-ghost use Rattle.std.specs.Prelude.{{◌≡◌}};
+//! What a text may spell.
+ghost use Rattle.std.specs.Prelude.{{◌≡◌, MatchOption}};
 ghost use Rattle.syn_recognize.specs.Names as names;
-ghost use Rattle.syn_canon.specs.Kinds.{{rule_of}};
+ghost use Rattle.syn_texts.specs.Kinds.{{word_of, NoKind, rule_of}};
 
-use crate::kind::Kind;
 use syn_recognize::Rule;
 
-/// The rule by which a kind is read.
-#[tactic(auto, unfolding(syn_recognize::specs::Names::rule_of))]
-pub(crate) fn rule_by(kind: Kind) -> Rule
-    ensures {{ names.rule_of result ≡ rule_of kind }}
-{{
-    match kind {{
-{arms}    }}
+/// What a text may spell.
+#[derive(Clone, Copy, Debug, PartialEq, Eq)]
+pub enum Kind {{
+{variants}}}
+
+impl Kind {{
+    /// The kind that the word is, if it is one.
+    pub fn from_word(word: &[u8]) -> Option<Kind>
+        ensures {{ MatchOption result (NoKind word.now) (λ kind. word.now ≡ word_of kind) }}
+    {{
+        match word {{
+{words}            _ => None,
+        }}
+    }}
+
+    /// The rule by which it is read.
+    #[tactic(auto, unfolding(syn_recognize::specs::Names::rule_of))]
+    pub fn rule(self) -> Rule
+        ensures {{ names.rule_of result ≡ rule_of self }}
+    {{
+        match self {{
+{rules}        }}
+    }}
 }}
 """
 
@@ -133,12 +124,12 @@ def kind_specs(kinds):
     words = "".join(f'word_of {camel(word)} = codes "{word}"\n' for word, _, _ in kinds)
     rules = "".join(f"rule_of {camel(word)} = rules.{rule}\n" for word, _, rule in kinds)
     return f"""-- {WRITTEN}
--- THE KINDS OF THE PROGRAM: how each is written, each as bytes, and by which rule of the grammar it is read.
+-- THE KINDS OF TEXTS: how each is written, as bytes, and by which rule of the grammar it is read.
 use Rattle.std.specs.Prelude.{{◌≡◌, ℕ, List, codes}}
 use Rattle.syn_grammar.specs.Rules as rules
 use Rattle.syn_grammar.specs.Rules.{{Rule}}
-use Rattle.syn_canon.specs.declared.kind.Kind.{{Kind}}
-use Rattle.syn_canon.specs.declared.kind.Kind.TheVariants.{{{names}}}
+use Rattle.syn_texts.specs.declared.kind.Kind.{{Kind}}
+use Rattle.syn_texts.specs.declared.kind.Kind.TheVariants.{{{names}}}
 
 -- how a kind is written
 abbrev pub word_of : Kind → List ℕ

@@ -1,24 +1,20 @@
 -- WHAT THE PROGRAM PRINTS.
-use Rattle.std.specs.Prelude.{◌≡◌, ◌⊎◌, ℕ, true, List, ◌++◌, length, codes, Option, IfSome, String}
+use Rattle.std.specs.Prelude.{◌≡◌, ℕ, true, List, ◌++◌, codes, Option, IfSome, String}
 use Rattle.std.specs.Str.{IsUtf8}
 use Rattle.std.specs.Io.KnownBytes.{Appends}
 use Rattle.std.specs.declared.alloc.Global.{Global}
 use Rattle.syn_grammar.specs.Tokens.{Stream}
 use Rattle.syn_grammar.specs.Rules.{Rule, file}
-use Rattle.syn_grammar.specs.Grammar.{Syntax}
-use Rattle.syn_grammar.specs.Laws.{Derives}
 use Rattle.syn_grammar.specs.Promises as grammar
-use Rattle.syn_tokens.specs.Faults.{ErrorValue, IsSyntaxError}
-use Rattle.syn_reader.specs.Refusals as reader
-use Rattle.syn_reader.specs.Spelling.{Spells, IsFaultWithin}
-use Rattle.syn_reader.specs.Texts.{text_of}
-use Rattle.syn_answers.specs.Canonical.{IsCanonical}
+use Rattle.syn_tokens.specs.Faults.{IsSyntaxError}
+use Rattle.syn_reader.specs.Spelling.{Spells}
+use Rattle.syn_texts.specs.Kinds.{rule_of}
+use Rattle.syn_texts.specs.Lines.{IsListed}
+use Rattle.syn_texts.specs.Texts.{IsCanonicalText, IsDerived, IsRefusal}
 use Rattle.syn_canon.specs.declared.command.Command.{Command}
 use Rattle.syn_canon.specs.declared.command.Command.TheVariants.{Print, Check, List as Listing}
 use Rattle.syn_canon.specs.declared.failure.Failure.{Failure}
 use Rattle.syn_canon.specs.declared.failure.Failure.TheVariants.{Usage, ReadFailed, NotUtf8, Refused, WriteFailed, OutOfMemory}
-use Rattle.syn_canon.specs.Kinds.{rule_of}
-use Rattle.syn_canon.specs.Lines.{IsListed}
 use Rattle.syn_canon.specs.Words.{IsCommand, NoCommand}
 use Rattle.syn_canon.specs.Statuses.{is_decided, status_of, line_of}
 
@@ -30,15 +26,11 @@ rule_for (Print kind) = rule_of kind
 rule_for (Check kind) = rule_of kind
 rule_for Listing = file
 
--- the rule derives a tree from the whole stream
-abbrev pub IsDerived : Rule → Stream → Type 0
-IsDerived rule stream = (tree : Syntax) × Derives rule stream tree
-
 -- THE OUTPUT
 
--- the output of `print` for a stream: the text of its canonical print, and a newline
+-- the output of `print` for a stream: its canonical text, and a newline
 abbrev pub IsPrinted : Rule → Stream → List ℕ → Type 0
-IsPrinted rule stream answer = (printed : Stream) × IsCanonical rule stream printed × (answer ≡ text_of printed ++ codes "\n")
+IsPrinted rule stream answer = (text : List ℕ) × IsCanonicalText rule stream text × (answer ≡ text ++ codes "\n")
 
 -- the output of a command for a stream; `check` writes `ok` and a newline, where a tree is derived; `list` writes a line for each item of a
 -- file
@@ -75,11 +67,6 @@ IsUnread known NotUtf8 = IfSome known (λ bytes. ¬ IsUtf8 bytes)
 IsUnread known ReadFailed = Unit {0}
 IsUnread known OutOfMemory = Unit {0}
 IsUnread known _ = ⊥
-
--- The text can't be cut into tokens or its groups don't match: the reader's fault says where and why. Or it spells a stream from which the
--- rule derives no tree.
-abbrev pub IsRefusal : Rule → List ℕ → ErrorValue → Type 0
-IsRefusal rule text error = (IsFaultWithin (length text) error × reader.IsRefusal text error) ⊎ ((stream : Stream) × Spells text stream × grammar.Refused rule stream)
 
 -- why there is no output: the words are no command, or no text is read, or the text is refused
 abbrev pub IsNoAnswer : List (String Global) → Option (List ℕ) → Failure → Type 0

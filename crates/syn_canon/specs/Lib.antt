@@ -1,5 +1,3 @@
-pub mod Kinds
 pub mod Words
-pub mod Lines
 pub mod Statuses
 pub mod Answers

@@ -3,7 +3,7 @@ use Rattle.std.specs.Prelude.{◌≡◌, ℕ, List, [], ◌∷◌, map, String, 
 use Rattle.std.specs.declared.alloc.Global.{Global}
 use Rattle.syn_canon.specs.declared.command.Command.{Command}
 use Rattle.syn_canon.specs.declared.command.Command.TheVariants.{Print, Check, List as Listing}
-use Rattle.syn_canon.specs.Kinds.{word_of}
+use Rattle.syn_texts.specs.Kinds.{word_of}
 
 -- how a command is written
 abbrev pub words_of : Command → List (List ℕ)

@@ -3,20 +3,22 @@ ghost use Rattle.std.specs.Prelude.{◌≡◌, ◌↔◌, true, Err, IfOk, IfErr
 ghost use Rattle.std.specs.Str.{IsUtf8};
 ghost use Rattle.std.specs.Io.KnownBytes.{IsAtEnd};
 ghost use Rattle.syn_grammar.specs.Tokens.{visible};
-ghost use Rattle.syn_canon.specs.Kinds.{rule_of};
+ghost use Rattle.syn_grammar.specs.Rules.{file};
+ghost use Rattle.syn_texts.specs.Kinds.{rule_of};
+ghost use Rattle.syn_texts.specs.Lines.{IsListed};
+ghost use Rattle.syn_texts.specs.Texts.{IsDerived};
 ghost use Rattle.syn_canon.specs.Words.{IsCommand, NoCommand};
-ghost use Rattle.syn_canon.specs.Answers.{IsRead, IsPrinted, IsDerived, IsAnswer, IsUnderived, IsUnread, IsNoAnswer};
+ghost use Rattle.syn_canon.specs.Answers.{IsRead, IsPrinted, IsAnswer, IsUnderived, IsUnread, IsNoAnswer};
 ghost use Rattle.syn_canon.specs.declared.failure.Failure.TheVariants.{Usage};
 
-use crate::by_kind::rule_by;
 use crate::command::Command;
 use crate::failure::Failure;
-use crate::kind::Kind;
-use crate::listing::list;
 use std::alloc::Global;
 use std::io::Read;
 use syn_answers::answers::{canonical_by, derived_by};
 use syn_reader::reader::{read_tokens, token_text};
+use syn_texts::kind::Kind;
+use syn_texts::listing::listed_text;
 use syn_tokens::stream::TokenStream;
 
 /// The whole output for these words and the text in `input`. The words are checked before anything is read.
@@ -42,7 +44,7 @@ pub(crate) fn answer<R: Read>(
             check(kind, tokens)?;
             Ok(String::from_str(alloc, "ok\n")?)
         }
-        Command::List => list(alloc, &tokens),
+        Command::List => list(&tokens),
     }
 }
 
@@ -65,7 +67,7 @@ fn print(kind: Kind, tokens: TokenStream) -> Result<String, Failure>
     ensures ok { IfOk result (λ text. IsPrinted (rule_of kind) tokens (string_bytes text)) }
     ensures err { IfErr result (IsUnderived (rule_of kind) tokens) }
 {
-    let mut text = token_text(&canonical_by(rule_by(kind), tokens)?)?;
+    let mut text = token_text(&canonical_by(kind.rule(), tokens)?)?;
     text.push('\n')?;
     Ok(text)
 }
@@ -76,5 +78,14 @@ fn check(kind: Kind, tokens: TokenStream) -> Result<(), Failure>
     ensures ok { OnOk result (IsDerived (rule_of kind) tokens) }
     ensures err { IfErr result (IsUnderived (rule_of kind) tokens) }
 {
-    Ok(derived_by(rule_by(kind), tokens)?)
+    Ok(derived_by(kind.rule(), tokens)?)
+}
+
+/// The kind and the name of each item of a file, a line for each.
+fn list(tokens: &TokenStream) -> Result<String, Failure>
+    requires { visible tokens.now ≡ true }
+    ensures ok { IfOk result (λ text. IsListed tokens.now (string_bytes text)) }
+    ensures err { IfErr result (IsUnderived file tokens.now) }
+{
+    Ok(listed_text(tokens)?)
 }

@@ -2,7 +2,7 @@
 ghost use Rattle.std.specs.Prelude.{◌≡◌, MatchOption};
 ghost use Rattle.syn_canon.specs.Words.{IsCommand, NoCommand};
 
-use crate::kind::Kind;
+use syn_texts::kind::Kind;
 
 /// A command on a text.
 #[derive(Clone, Copy, Debug, PartialEq, Eq)]
@@ -26,7 +26,7 @@ impl Command {
                 _ => None,
             },
             [task, kind] => {
-                let kind = Kind::from_word(kind.as_str())?;
+                let kind = Kind::from_word(kind.as_bytes())?;
                 match task.as_str() {
                     "print" => Some(Command::Print(kind)),
                     "check" => Some(Command::Check(kind)),

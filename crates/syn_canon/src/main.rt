@@ -10,11 +10,8 @@ ghost use Rattle.syn_canon.specs.Statuses.{is_decided, status_of, line_of};
 ghost use Rattle.syn_canon.specs.declared.failure.Failure.TheVariants.{Usage, WriteFailed, OutOfMemory};
 
 mod answer;
-mod by_kind;
 mod command;
 mod failure;
-mod kind;
-mod listing;
 pub mod output;
 
 use crate::answer::answer;

@@ -1,10 +1,10 @@
 -- Written by tools/kinds.py; edits are lost.
--- THE KINDS OF THE PROGRAM: how each is written, each as bytes, and by which rule of the grammar it is read.
+-- THE KINDS OF TEXTS: how each is written, as bytes, and by which rule of the grammar it is read.
 use Rattle.std.specs.Prelude.{◌≡◌, ℕ, List, codes}
 use Rattle.syn_grammar.specs.Rules as rules
 use Rattle.syn_grammar.specs.Rules.{Rule}
-use Rattle.syn_canon.specs.declared.kind.Kind.{Kind}
-use Rattle.syn_canon.specs.declared.kind.Kind.TheVariants.{File, Item, Derive, Visibility, Variant, NamedField, UnnamedField, FieldsNamed, FieldsUnnamed, Signature, FnArg, Receiver, UseTree, TraitItem, ImplItem, ForeignItem, ItemConst, ItemEnum, ItemExternCrate, ItemFn, ItemForeignMod, ItemImpl, ItemMacro, ItemMod, ItemStatic, ItemStruct, ItemTrait, ItemTraitAlias, ItemType, ItemUnion, ItemUse, Block, Stmt, Stmts}
+use Rattle.syn_texts.specs.declared.kind.Kind.{Kind}
+use Rattle.syn_texts.specs.declared.kind.Kind.TheVariants.{File, Item, Derive, Visibility, Variant, NamedField, UnnamedField, FieldsNamed, FieldsUnnamed, Signature, FnArg, Receiver, UseTree, TraitItem, ImplItem, ForeignItem, ItemConst, ItemEnum, ItemExternCrate, ItemFn, ItemForeignMod, ItemImpl, ItemMacro, ItemMod, ItemStatic, ItemStruct, ItemTrait, ItemTraitAlias, ItemType, ItemUnion, ItemUse, Block, Stmt, Stmts}
 
 -- how a kind is written
 abbrev pub word_of : Kind → List ℕ

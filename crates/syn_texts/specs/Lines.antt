@@ -1,4 +1,4 @@
--- THE LINES OF `list`.
+-- THE LINES THAT LIST A FILE.
 use Rattle.std.specs.Prelude.{◌≡◌, ℕ, List, [], ◌∷◌, ◌++◌, Option, Some, None, codes}
 use Rattle.syn_grammar.specs.Tokens.{Stream}
 -- Written by tools/kinds.py down to the next such comment; edits are lost.
@@ -42,6 +42,6 @@ abbrev pub lines : List Listed → List ℕ
 lines [] = []
 lines (item ∷ items) = line item ++ lines items
 
--- what `list` writes of a stream: a file is derived of it, and these are the lines of its items
+-- a file is derived of the stream, and these are the lines of its items
 abbrev pub IsListed : Stream → List ℕ → Type 0
 IsListed stream answer = (items : List Listed) × FileLists stream items × (answer ≡ lines items)

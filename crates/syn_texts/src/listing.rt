@@ -1,15 +1,15 @@
-//! The lines of `list`.
+//! The lines that list a file.
 ghost use Rattle.std.specs.Prelude.{◌≡◌, ◌++◌, map, true, OnOk, IfOk, IfErr, string_bytes};
+ghost use Rattle.syn_grammar.specs.Promises.{Refused};
 ghost use Rattle.syn_grammar.specs.Rules.{file};
 ghost use Rattle.syn_grammar.specs.Tokens.{visible};
+ghost use Rattle.syn_tokens.specs.Faults.{IsSyntaxError};
 ghost use Rattle.syn_answers.specs.Listing.{entry_of, rule_of};
-ghost use Rattle.syn_canon.specs.Answers.{IsUnderived};
-ghost use Rattle.syn_canon.specs.Lines.{IsListed, kind_word, line, lines};
-ghost use Rattle.syn_canon.specs.declared.failure.Failure.TheVariants.{OutOfMemory};
+ghost use Rattle.syn_texts.specs.Lines.{IsListed, kind_word, line, lines};
 
-use crate::failure::Failure;
-use std::alloc::Global;
+use std::alloc::{AllocError, Global};
 use syn_answers::list::{ItemKind, ListedItem, list_items};
+use syn_tokens::error::Result;
 use syn_tokens::stream::TokenStream;
 
 // Written by tools/kinds.py down to the next such comment; edits are lost.
@@ -41,9 +41,8 @@ fn word_of(kind: ItemKind) -> &'static str
 // End of the part that tools/kinds.py writes.
 
 /// The line of an item: its kind, a space, its name, or `-` where it has none, and a newline.
-fn write_line(item: &ListedItem, text: &mut String) -> Result<(), Failure>
-    ensures ok { OnOk result (string_bytes text.new ≡ string_bytes text.old ++ line (entry_of item.now)) }
-    ensures err { IfErr result (λ failure. failure ≡ OutOfMemory) }
+fn write_line(item: &ListedItem, text: &mut String) -> std::result::Result<(), AllocError>
+    ensures { OnOk result (string_bytes text.new ≡ string_bytes text.old ++ line (entry_of item.now)) }
 {
     text.push_str(word_of(item.kind))?;
     text.push(' ')?;
@@ -51,15 +50,16 @@ fn write_line(item: &ListedItem, text: &mut String) -> Result<(), Failure>
         Some(name) => text.push_str(name.text())?,
         None => text.push('-')?,
     }
-    text.push('\n')?;
-    Ok(())
+    text.push('\n')
 }
 
 /// The lines of these items.
 #[tactic(auto, using(crate::proofs::Lines::one_more, crate::proofs::Lines::all_written))]
-fn write_lines(alloc: Global, items: &Vec<ListedItem>) -> Result<String, Failure>
-    ensures ok { IfOk result (λ text. string_bytes text ≡ lines (map entry_of items.now.items)) }
-    ensures err { IfErr result (λ failure. failure ≡ OutOfMemory) }
+fn write_lines(
+    alloc: Global,
+    items: &Vec<ListedItem>,
+) -> std::result::Result<String, AllocError>
+    ensures { IfOk result (λ text. string_bytes text ≡ lines (map entry_of items.now.items)) }
 {
     let mut text = String::new(alloc);
     'items: for item in items {
@@ -68,12 +68,12 @@ fn write_lines(alloc: Global, items: &Vec<ListedItem>) -> Result<String, Failure
     Ok(text)
 }
 
-/// The kind and the name of each item of a file, a line for each.
-pub(crate) fn list(alloc: Global, tokens: &TokenStream) -> Result<String, Failure>
+/// The kind and the name of each item of the file that the tokens spell, a line for each.
+pub fn listed_text(tokens: &TokenStream) -> Result<String>
     requires { visible tokens.now ≡ true }
     ensures ok { IfOk result (λ text. IsListed tokens.now (string_bytes text)) }
-    ensures err { IfErr result (IsUnderived file tokens.now) }
+    ensures err { IfErr result (λ e. IsSyntaxError e → Refused file tokens.now) }
 {
     let items = list_items(tokens)?;
-    write_lines(alloc, &items)
+    Ok(write_lines(tokens.alloc(), &items)?)
 }

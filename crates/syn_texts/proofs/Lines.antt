@@ -4,7 +4,7 @@ use Rattle.std.specs.Prelude.{List, ◌++◌, length, drop, get_or, map}
 use Rattle.std.proofs.lemmas.List.{append-nil, append_assoc, at_drop_more, drop_all}
 use Rattle.syn_answers.specs.declared.list.ListedItem.{ListedItem}
 use Rattle.syn_answers.specs.Listing.{entry_of}
-use Rattle.syn_canon.specs.Lines.{line, lines}
+use Rattle.syn_texts.specs.Lines.{line, lines}
 
 pub one_more : (l : List ListedItem) (i : ℕ) (d : ListedItem) (w v : List ℕ) → i < length l → v ≡ w ++ line (entry_of (get_or l i d)) →
     v ++ lines (map entry_of (drop (i + 1) l)) ≡ w ++ lines (map entry_of (drop i l))
