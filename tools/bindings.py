@@ -24,16 +24,19 @@ from kindslib.table import ROWS
 SOURCES = Path("crates/syn_c/src")
 BINDINGS = Path("bindings")
 WRITTEN = "Written by tools/bindings.py; edits are lost."
+# How an item is listed that has no kind of its own.
+VERBATIM = "verbatim"
 
 
 def outputs(library, rows):
     """The text of each file."""
+    items = [row.listed_word for row in rows if "tried" in row.more] + [VERBATIM]
     return {
         BINDINGS / "c/syn_canon.h": header.header(library, rows, WRITTEN),
         BINDINGS / "rust/src/native.rs": rust.declarations(library, WRITTEN),
-        BINDINGS / "rust/src/kind.rs": rust.kinds(rows, WRITTEN),
+        BINDINGS / "rust/src/kind.rs": rust.kinds(rows, items, WRITTEN),
         BINDINGS / "python/syn_canon/_native.py": python.declarations(library, WRITTEN),
-        BINDINGS / "python/syn_canon/kinds.py": python.kinds(rows, WRITTEN),
+        BINDINGS / "python/syn_canon/kinds.py": python.kinds(rows, items, WRITTEN),
     }
 
 

@@ -1,5 +1,5 @@
 #!/usr/bin/env python3
-"""Checks the pages (README.md, CONTRIBUTING.md, docs/): links and their anchors lead somewhere, files that are named exist, no page
+"""Checks the pages (README.md, CONTRIBUTING.md, docs/, bindings/): links and their anchors lead somewhere, files that are named exist, no page
 is longer than its limit, and worn words don't come back. It writes nothing.
 
     tools/check_pages.py            lists the words of each page, and what is wrong
@@ -81,7 +81,7 @@ def main():
     parser = argparse.ArgumentParser(description=__doc__, formatter_class=argparse.RawDescriptionHelpFormatter)
     parser.add_argument("--check", action="store_true", help="list only what is wrong")
     options = parser.parse_args()
-    pages = [TOP / "README.md", TOP / "CONTRIBUTING.md", *sorted((TOP / "docs").rglob("*.md"))]
+    pages = [TOP / "README.md", TOP / "CONTRIBUTING.md", *sorted((TOP / "docs").rglob("*.md")), *sorted((TOP / "bindings").glob("*/*.md"))]
     known, wrong = known_names(), 0
     for page in pages:
         name = page.relative_to(TOP).as_posix()

@@ -228,7 +228,7 @@ class Checks(InCrate):
 
     def setUp(self):
         super().setUp()
-        (self.top / "crates.txt").write_text("# crates\nlow: arrayvec\nother:\nhigh: low hex\n")
+        (self.top / "crates.txt").write_text("# crates\nlow: arrayvec\nother:\nhigh: low hex\nfor_c staticlib: low\n")
         self.high = self.top / "crates" / "high"
         for path in ["src/main.rt", "specs/Views.antt"]:
             (self.high / path).parent.mkdir(parents=True)
@@ -268,6 +268,12 @@ class Checks(InCrate):
         self.assertEqual(after("-L"), [f"dependency={self.kit}/rlibs", f"dependency={low}"])
         self.assertEqual((after("--only"), after("--incremental")), (["Name::g", "f"], ["kept"]))
         self.assertNotIn("--only", prover.words(self.high, set()))
+        self.assertEqual(after("--crate-type"), [])
+
+    def test_a_static_library_is_checked_as_such(self):
+        words = prover.words(self.top / "crates/for_c", set())
+        self.assertEqual(words[words.index("--crate-type") + 1], "staticlib")
+        self.assertIn(f"low={self.crate}/out/rlib/low.rlib", words)
 
     def test_libraries_that_rt_ci_left_are_taken(self):
         self.built("format")

@@ -11,6 +11,7 @@ from pathlib import Path
 
 TOP = Path(__file__).resolve().parent.parent
 CRATE = "crates/syn_canon"
+KINDS = "crates/syn_texts"
 CRATES = ["low", "middle", "high", "syn_canon"]
 STAMP = "tools/gatelib/stamp.sh"
 # What the script and the command rt of the tests call; PATH has nothing else, so no other rt is found.
@@ -52,7 +53,8 @@ class Case(unittest.TestCase):
             shutil.copy(TOP / name, self.root / name)
         for name in [*CRATES, "low_lines"]:
             (self.root / "crates" / name / "src").mkdir(parents=True)
-        shutil.copytree(TOP / CRATE / "specs", self.root / CRATE / "specs")
+        for crate in (CRATE, KINDS):
+            shutil.copytree(TOP / crate / "specs", self.root / crate / "specs")
         (self.root / "crates.txt").write_text("# What stands on what.\nsyn_canon: high std\nlow:\nmiddle: low\nlow_lines: syn_canon\nhigh: middle low hex\n")
         (self.kit / "KIT-ID").write_text("some kit\n")
         self.rt = self.kit / "bin/rt"
@@ -85,7 +87,7 @@ class Words(Case):
         ran = self.run_with("--help")
         self.assertEqual((ran.returncode, ran.stderr, self.calls()), (0, b"", []))
         told = ran.stdout.decode()
-        source = "".join((TOP / CRATE / "src" / file).read_text() for file in ("command.rt", "kind.rt"))
+        source = "".join((TOP / file).read_text() for file in (f"{CRATE}/src/command.rt", f"{KINDS}/src/kind.rt"))
         found = re.findall(r'"(\S+)" => Some\((?:Kind|Command)::', source)
         self.assertGreater(len(found), 3)
         for word in found:

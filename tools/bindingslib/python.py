@@ -40,15 +40,18 @@ def member(word):
     return word.upper().replace("-", "_")
 
 
-def kinds(rows, written):
-    """The kinds, with their names."""
-    members = "".join(f'    {member(row.word)} = "{row.word}"\n' for row in rows)
-    return f'''"""{written}"""
+def enumeration(name, doc, words):
+    members = "".join(f'    {member(word)} = "{word}"\n' for word in words)
+    return f'''
 
-import enum
-
-
-class Kind(enum.Enum):
-    """What a text is read as; the value is the name that the program `syn_canon` takes."""
+class {name}(enum.Enum):
+    """{doc}"""
 
 {members}'''
+
+
+def kinds(rows, items, written):
+    """The kinds of texts and of items, with their names."""
+    texts = enumeration("Kind", "What a text is read as. The value is the name that the program `syn_canon` takes.", [row.word for row in rows])
+    listed = enumeration("ItemKind", "What an item of a file is. The value is the name that `syn_canon list` writes.", items)
+    return f'"""{written}"""\n\nimport enum\n{texts}{listed}'

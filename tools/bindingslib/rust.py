@@ -42,27 +42,38 @@ extern "C" {{
 """
 
 
-def kinds(rows, written):
-    """The kinds, with their names."""
-    variants = "".join(f"    /// `{row.word}`, with the syntax of a `{row.type}`.\n    {camel(row.word)},\n" for row in rows)
-    listed = "".join(f"        Kind::{camel(row.word)},\n" for row in rows)
-    names = "".join(f'            Kind::{camel(row.word)} => "{row.word}",\n' for row in rows)
-    return f"""//! {written}
+def enumeration(name, doc, variants, name_doc):
+    """An enum of kinds: each variant has its name and its documentation."""
+    listed = "".join(f"{documented(text, '    ')}    {camel(word)},\n" for word, text in variants)
+    every = "".join(f"        {name}::{camel(word)},\n" for word, _ in variants)
+    names = "".join(f'            {name}::{camel(word)} => "{word}",\n' for word, _ in variants)
+    return f"""
+{documented(doc)}#[derive(Clone, Copy, Debug, PartialEq, Eq, Hash)]
+pub enum {name} {{
+{listed}}}
 
-/// What a text is read as.
-#[derive(Clone, Copy, Debug, PartialEq, Eq, Hash)]
-pub enum Kind {{
-{variants}}}
+impl {name} {{
+    /// All of them.
+    pub const ALL: [{name}; {len(variants)}] = [
+{every}    ];
 
-impl Kind {{
-    /// All kinds.
-    pub const ALL: [Kind; {len(rows)}] = [
-{listed}    ];
-
-    /// Its name, as the program `syn_canon` takes it.
+    /// {name_doc}
     pub const fn name(self) -> &'static str {{
         match self {{
 {names}        }}
     }}
+
+    /// The kind of this name.
+    pub fn from_name(name: &str) -> Option<{name}> {{
+        {name}::ALL.into_iter().find(|kind| kind.name() == name)
+    }}
 }}
 """
+
+
+def kinds(rows, items, written):
+    """The kinds of texts and of items, with their names."""
+    texts = [(row.word, f"`{row.word}`: `{row.type}`.") for row in rows]
+    listed = [(word, f"`{word}`.") for word in items]
+    return (f"//! {written}\n" + enumeration("Kind", "What a text is read as.", texts, "Its name, as the program `syn_canon` takes it.")
+            + enumeration("ItemKind", "What an item of a file is.", listed, "Its name, as `syn_canon list` writes it."))

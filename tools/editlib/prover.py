@@ -50,10 +50,12 @@ def jobs(lanes=1):
 def words(crate, only):
     """What calls the prover for a crate, of which it checks only these functions where any are named."""
     top, home = crate.parent.parent, kit()
-    named = next(line.partition(":")[2].split() for line in (top / "crates.txt").read_text().split("\n") if line.partition(":")[0] == crate.name)
+    lines = [line.partition(":") for line in (top / "crates.txt").read_text().split("\n")]
+    kind, named = next((name.split()[1:], uses.split()) for name, _, uses in lines if name.split()[:1] == [crate.name])
     uses = listed(top)
     found = [home / "bin/rattle", "check", "--crate-name", crate.name]
     found += ["src/main.rt" if (crate / "src/main.rt").is_file() else "src/lib.rt"]
+    found += ["--crate-type", *kind] if kind else []
     for name in ["std", *named]:
         found += ["--extern", f"{name}={library(crate.parent / name) if name in uses else home / 'rlibs' / f'{name}.rlib'}"]
     for folder in [home / "rlibs", *(library(crate.parent / name).parent for name in below(crate.name, uses))]:

@@ -11,7 +11,8 @@ SOURCES = ("src", "specs", "proofs")
 def listed(top):
     """The crates of the repository, each with those of them that its line in crates.txt names."""
     lines = [line.partition(":") for line in (top / "crates.txt").read_text().split("\n") if not line.startswith("#")]
-    names = {name.strip(): uses.split() for name, colon, uses in lines if colon}
+    # a static library has that word after its name
+    names = {name.split()[0]: uses.split() for name, colon, uses in lines if colon}
     return {name: [it for it in uses if it in names] for name, uses in names.items()}
 
 

@@ -4,7 +4,7 @@ import enum
 
 
 class Kind(enum.Enum):
-    """What a text is read as; the value is the name that the program `syn_canon` takes."""
+    """What a text is read as. The value is the name that the program `syn_canon` takes."""
 
     FILE = "file"
     ITEM = "item"
@@ -40,3 +40,24 @@ class Kind(enum.Enum):
     BLOCK = "block"
     STMT = "stmt"
     STMTS = "stmts"
+
+
+class ItemKind(enum.Enum):
+    """What an item of a file is. The value is the name that `syn_canon list` writes."""
+
+    CONST = "const"
+    ENUM = "enum"
+    EXTERN_CRATE = "extern-crate"
+    FN = "fn"
+    FOREIGN_MOD = "foreign-mod"
+    IMPL = "impl"
+    MACRO = "macro"
+    MOD = "mod"
+    STATIC = "static"
+    STRUCT = "struct"
+    TRAIT = "trait"
+    TRAIT_ALIAS = "trait-alias"
+    TYPE = "type"
+    UNION = "union"
+    USE = "use"
+    VERBATIM = "verbatim"

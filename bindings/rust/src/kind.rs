@@ -3,78 +3,78 @@
 /// What a text is read as.
 #[derive(Clone, Copy, Debug, PartialEq, Eq, Hash)]
 pub enum Kind {
-    /// `file`, with the syntax of a `File`.
+    /// `file`: `File`.
     File,
-    /// `item`, with the syntax of a `Item`.
+    /// `item`: `Item`.
     Item,
-    /// `derive`, with the syntax of a `DeriveInput`.
+    /// `derive`: `DeriveInput`.
     Derive,
-    /// `visibility`, with the syntax of a `Visibility`.
+    /// `visibility`: `Visibility`.
     Visibility,
-    /// `variant`, with the syntax of a `Variant`.
+    /// `variant`: `Variant`.
     Variant,
-    /// `named-field`, with the syntax of a `NamedField`.
+    /// `named-field`: `NamedField`.
     NamedField,
-    /// `unnamed-field`, with the syntax of a `UnnamedField`.
+    /// `unnamed-field`: `UnnamedField`.
     UnnamedField,
-    /// `fields-named`, with the syntax of a `FieldsNamed`.
+    /// `fields-named`: `FieldsNamed`.
     FieldsNamed,
-    /// `fields-unnamed`, with the syntax of a `FieldsUnnamed`.
+    /// `fields-unnamed`: `FieldsUnnamed`.
     FieldsUnnamed,
-    /// `signature`, with the syntax of a `Signature`.
+    /// `signature`: `Signature`.
     Signature,
-    /// `fn-arg`, with the syntax of a `FnArg`.
+    /// `fn-arg`: `FnArg`.
     FnArg,
-    /// `receiver`, with the syntax of a `Receiver`.
+    /// `receiver`: `Receiver`.
     Receiver,
-    /// `use-tree`, with the syntax of a `UseTree`.
+    /// `use-tree`: `UseTree`.
     UseTree,
-    /// `trait-item`, with the syntax of a `TraitItem`.
+    /// `trait-item`: `TraitItem`.
     TraitItem,
-    /// `impl-item`, with the syntax of a `ImplItem`.
+    /// `impl-item`: `ImplItem`.
     ImplItem,
-    /// `foreign-item`, with the syntax of a `ForeignItem`.
+    /// `foreign-item`: `ForeignItem`.
     ForeignItem,
-    /// `item-const`, with the syntax of a `ItemConst`.
+    /// `item-const`: `ItemConst`.
     ItemConst,
-    /// `item-enum`, with the syntax of a `ItemEnum`.
+    /// `item-enum`: `ItemEnum`.
     ItemEnum,
-    /// `item-extern-crate`, with the syntax of a `ItemExternCrate`.
+    /// `item-extern-crate`: `ItemExternCrate`.
     ItemExternCrate,
-    /// `item-fn`, with the syntax of a `ItemFn`.
+    /// `item-fn`: `ItemFn`.
     ItemFn,
-    /// `item-foreign-mod`, with the syntax of a `ItemForeignMod`.
+    /// `item-foreign-mod`: `ItemForeignMod`.
     ItemForeignMod,
-    /// `item-impl`, with the syntax of a `ItemImpl`.
+    /// `item-impl`: `ItemImpl`.
     ItemImpl,
-    /// `item-macro`, with the syntax of a `ItemMacro`.
+    /// `item-macro`: `ItemMacro`.
     ItemMacro,
-    /// `item-mod`, with the syntax of a `ItemMod`.
+    /// `item-mod`: `ItemMod`.
     ItemMod,
-    /// `item-static`, with the syntax of a `ItemStatic`.
+    /// `item-static`: `ItemStatic`.
     ItemStatic,
-    /// `item-struct`, with the syntax of a `ItemStruct`.
+    /// `item-struct`: `ItemStruct`.
     ItemStruct,
-    /// `item-trait`, with the syntax of a `ItemTrait`.
+    /// `item-trait`: `ItemTrait`.
     ItemTrait,
-    /// `item-trait-alias`, with the syntax of a `ItemTraitAlias`.
+    /// `item-trait-alias`: `ItemTraitAlias`.
     ItemTraitAlias,
-    /// `item-type`, with the syntax of a `ItemType`.
+    /// `item-type`: `ItemType`.
     ItemType,
-    /// `item-union`, with the syntax of a `ItemUnion`.
+    /// `item-union`: `ItemUnion`.
     ItemUnion,
-    /// `item-use`, with the syntax of a `ItemUse`.
+    /// `item-use`: `ItemUse`.
     ItemUse,
-    /// `block`, with the syntax of a `Block`.
+    /// `block`: `Block`.
     Block,
-    /// `stmt`, with the syntax of a `Stmt`.
+    /// `stmt`: `Stmt`.
     Stmt,
-    /// `stmts`, with the syntax of a `Stmts`.
+    /// `stmts`: `Stmts`.
     Stmts,
 }
 
 impl Kind {
-    /// All kinds.
+    /// All of them.
     pub const ALL: [Kind; 34] = [
         Kind::File,
         Kind::Item,
@@ -150,5 +150,96 @@ impl Kind {
             Kind::Stmt => "stmt",
             Kind::Stmts => "stmts",
         }
+    }
+
+    /// The kind of this name.
+    pub fn from_name(name: &str) -> Option<Kind> {
+        Kind::ALL.into_iter().find(|kind| kind.name() == name)
+    }
+}
+
+/// What an item of a file is.
+#[derive(Clone, Copy, Debug, PartialEq, Eq, Hash)]
+pub enum ItemKind {
+    /// `const`.
+    Const,
+    /// `enum`.
+    Enum,
+    /// `extern-crate`.
+    ExternCrate,
+    /// `fn`.
+    Fn,
+    /// `foreign-mod`.
+    ForeignMod,
+    /// `impl`.
+    Impl,
+    /// `macro`.
+    Macro,
+    /// `mod`.
+    Mod,
+    /// `static`.
+    Static,
+    /// `struct`.
+    Struct,
+    /// `trait`.
+    Trait,
+    /// `trait-alias`.
+    TraitAlias,
+    /// `type`.
+    Type,
+    /// `union`.
+    Union,
+    /// `use`.
+    Use,
+    /// `verbatim`.
+    Verbatim,
+}
+
+impl ItemKind {
+    /// All of them.
+    pub const ALL: [ItemKind; 16] = [
+        ItemKind::Const,
+        ItemKind::Enum,
+        ItemKind::ExternCrate,
+        ItemKind::Fn,
+        ItemKind::ForeignMod,
+        ItemKind::Impl,
+        ItemKind::Macro,
+        ItemKind::Mod,
+        ItemKind::Static,
+        ItemKind::Struct,
+        ItemKind::Trait,
+        ItemKind::TraitAlias,
+        ItemKind::Type,
+        ItemKind::Union,
+        ItemKind::Use,
+        ItemKind::Verbatim,
+    ];
+
+    /// Its name, as `syn_canon list` writes it.
+    pub const fn name(self) -> &'static str {
+        match self {
+            ItemKind::Const => "const",
+            ItemKind::Enum => "enum",
+            ItemKind::ExternCrate => "extern-crate",
+            ItemKind::Fn => "fn",
+            ItemKind::ForeignMod => "foreign-mod",
+            ItemKind::Impl => "impl",
+            ItemKind::Macro => "macro",
+            ItemKind::Mod => "mod",
+            ItemKind::Static => "static",
+            ItemKind::Struct => "struct",
+            ItemKind::Trait => "trait",
+            ItemKind::TraitAlias => "trait-alias",
+            ItemKind::Type => "type",
+            ItemKind::Union => "union",
+            ItemKind::Use => "use",
+            ItemKind::Verbatim => "verbatim",
+        }
+    }
+
+    /// The kind of this name.
+    pub fn from_name(name: &str) -> Option<ItemKind> {
+        ItemKind::ALL.into_iter().find(|kind| kind.name() == name)
     }
 }
