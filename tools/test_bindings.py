@@ -7,6 +7,7 @@ import unittest
 from pathlib import Path
 
 import bindings
+import claimslib
 import try_bindings
 from bindingslib import header, python, rust
 from bindingslib.exports import Fault, Function, Parameter, library_of
@@ -74,7 +75,10 @@ class Exports(unittest.TestCase):
 
     def test_the_real_library_has_a_call_of_each_kind_of_answer(self):
         library = library_of("\n".join((TOP / "crates/syn_c/src" / name).read_text() for name in ("lib.rt", "answer.rt")))
-        self.assertEqual([it.name for it in library.functions], ["syn_canonical", "syn_same_form", "syn_check", "syn_list"])
+        names = ["syn_canonical", "syn_same_form", "syn_check", "syn_list"]
+        self.assertEqual([it.name for it in library.functions], names)
+        promised = {it.name for it in claimslib.functions_of("syn_c", TOP / "crates/syn_c/src/lib.rt") if it.public and "read" in it.clauses}
+        self.assertEqual(promised, {*names})
 
 
 class Declarations(unittest.TestCase):

@@ -8,7 +8,7 @@ from pathlib import Path
 Function = namedtuple("Function", "crate owner name clauses public")
 
 BLOCK = re.compile(r"^(?:pub(?:\(\w+\))? )?(impl|trait)\b(.*)$")
-FUNCTION = re.compile(r"^\s*(pub(?:\((?:crate|super)\))? )?fn (\w+)")
+FUNCTION = re.compile(r"^\s*(pub(?:\((?:crate|super)\))? )?(?:extern \"C\" )?fn (\w+)")
 CLAUSE = re.compile(r"^\s*ensures (?:(\w+) )?\{")
 GENERICS = re.compile(r"^<(?:[^<>]|<[^<>]*>)*>")
 
