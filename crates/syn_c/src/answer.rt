@@ -1,9 +1,9 @@
 //! How an answer is passed to the caller.
 ghost use Rattle.std.specs.Prelude.{◌≡◌, length};
+ghost use Rattle.syn_tokens.specs.Faults.{faults_of};
 ghost use Rattle.syn_c.specs.Answers.{filled, Writes, IsReported};
 
-use crate::READ;
-use crate::NO_MEMORY;
+use crate::{NO_MEMORY, READ};
 use syn_tokens::error::Error;
 
 /// What a call finds: the place of a fault, and the length of the text that it writes.
@@ -46,7 +46,7 @@ pub(crate) fn answered(text: &str, buffer: &mut [u8], answer: &mut Answer) -> u3
 /// Writes the place and the words of the first fault, and returns the status `refused`; if there is no fault, memory was refused, and nothing is
 /// written.
 pub(crate) fn failed(error: &Error, refused: u32, buffer: &mut [u8], answer: &mut Answer) -> u32
-    ensures { IsReported error.now refused result buffer.old buffer.new answer.old answer.new }
+    ensures { IsReported (faults_of error.now) refused result buffer.old buffer.new answer.old answer.new }
 {
     let Some(fault) = error.faults().first() else {
         return NO_MEMORY;

@@ -114,7 +114,12 @@ pub extern "C" fn syn_check(
 
 /// Writes a line for each item of the file that the text spells: its kind, a space, its name, or `-` where it has none, and a newline.
 #[unsafe(no_mangle)]
-pub extern "C" fn syn_list(alloc: Global, text: &[u8], buffer: &mut [u8], answer: &mut Answer) -> u32
+pub extern "C" fn syn_list(
+    alloc: Global,
+    text: &[u8],
+    buffer: &mut [u8],
+    answer: &mut Answer,
+) -> u32
     ensures known { result ≢ 2 × result ≤ 3 }
     ensures read { result ≡ 0 → IsList text.now buffer.old buffer.new answer.new }
     ensures refused { result ≡ 1 → IsRefusedAsFile text.now buffer.old buffer.new answer.new }

@@ -55,10 +55,7 @@ fn write_line(item: &ListedItem, text: &mut String) -> std::result::Result<(), A
 
 /// The lines of these items.
 #[tactic(auto, using(crate::proofs::Lines::one_more, crate::proofs::Lines::all_written))]
-fn write_lines(
-    alloc: Global,
-    items: &Vec<ListedItem>,
-) -> std::result::Result<String, AllocError>
+fn write_lines(alloc: Global, items: &Vec<ListedItem>) -> std::result::Result<String, AllocError>
     ensures { IfOk result (λ text. string_bytes text ≡ lines (map entry_of items.now.items)) }
 {
     let mut text = String::new(alloc);
