@@ -37,6 +37,7 @@ fn outcome(status: u32, text: String, answer: Answer) -> Result<String, Error> {
         native::REFUSED => Err(refused(Which::First, text, answer)),
         native::SECOND_REFUSED => Err(refused(Which::Second, text, answer)),
         native::NO_KIND => Err(Error::UnknownKind),
+        // `NO_MEMORY`; the library returns no other status
         _ => Err(Error::Memory),
     }
 }

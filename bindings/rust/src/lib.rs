@@ -18,7 +18,6 @@
 //! The README says what is proved, and what rests on this crate and on the caller.
 
 #![deny(missing_docs, unsafe_op_in_unsafe_fn)]
-#![forbid(non_ascii_idents)]
 
 mod call;
 mod error;

@@ -12,7 +12,7 @@ const MOST: usize = 1000;
 #[repr(C)]
 struct Tried {
     is_there: usize,
-    block: *mut u8,
+    _block: *mut u8,
 }
 
 extern "C" {

@@ -26,7 +26,7 @@ DerivedOf rule text = (stream : Stream) × Spells text stream × IsDerived rule 
 
 -- the texts spell streams from which the rule derives trees, and this is whether they have the same normal form
 abbrev pub SameOf : Rule → List ℕ → List ℕ → Bool → Type 0
-SameOf rule first second is_same = (a b : Stream) × Spells first a × Spells second b × IsSameForm rule a b is_same
+SameOf rule first second is_same = (a : Stream) × (b : Stream) × Spells first a × Spells second b × IsSameForm rule a b is_same
 
 -- the text spells a file, and these are the lines of its items
 abbrev pub ListOf : List ℕ → List ℕ → Type 0
