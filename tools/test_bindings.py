@@ -7,6 +7,7 @@ import unittest
 from pathlib import Path
 
 import bindings
+import build_archive
 import claimslib
 import try_bindings
 from bindingslib import header, python, rust
@@ -119,6 +120,22 @@ class Declarations(unittest.TestCase):
 
 
 class Archives(unittest.TestCase):
+    def test_the_proved_archive_is_built_over_the_libraries(self):
+        crate = TOP / "crates/syn_c"
+        words = build_archive.command(crate, "some.a")
+        self.assertEqual(words[1:4], ["build", "--crate-name", "syn_c"])
+        after = lambda word: [words[at + 1] for at, it in enumerate(words) if it == word]
+        self.assertEqual((after("--crate-type"), after("-o")), (["staticlib"], ["some.a"]))
+        self.assertIn(f"syn_texts={crate.parent}/syn_texts/out/rlib/syn_texts.rlib", after("--extern"))
+
+    def test_what_is_not_built_is_named(self):
+        with tempfile.TemporaryDirectory() as folder:
+            crates = Path(folder, "crates")
+            (crates / "low/out/rlib/low.rlib").mkdir(parents=True)
+            (crates / "low/out/rlib/low.rlib/format").touch()
+            Path(folder, "crates.txt").write_text("low:\nmiddle: low\nof_c staticlib: low middle\n")
+            self.assertEqual(build_archive.missing(crates / "of_c"), ["middle"])
+
     def test_a_program_calls_each_export(self):
         text = archive.main_of(library_of(LIBRARY))
         self.assertIn("    let mut answer = Answer { start: 0 };\n", text)

@@ -3,8 +3,8 @@
 
     tools/try_bindings.py c|rust|python [--archive FILE]
 
-The archive is libsyn_c.a, by default where `./prove syn_c` builds it; `tools/trial_build.py FOLDER syn_c` builds one without proofs. Needed are
-a C compiler (the variable CC, or `cc`), and for Rust cargo.
+The archive is libsyn_c.a, by default where tools/build_archive.py builds it; `tools/trial_build.py FOLDER syn_c` builds one without proofs.
+Needed are a C compiler (the variable CC, or `cc`), and for Rust cargo.
 
     c         bindings/c/tests/calls.c, over a heap that refuses requests (tools/refusing_heap.c); and the example, over the kit's heap
     rust      cargo test, over that heap and over the kit's, and the example
