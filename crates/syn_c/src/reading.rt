@@ -1,5 +1,6 @@
 //! What is found of a text.
-ghost use Rattle.std.specs.Prelude.{◌≡◌, true, OnOk, IfOk, IfErr, string_bytes};
+ghost use Rattle.std.specs.Prelude.{◌≡◌, ◌<◌, ◌≤◌, true, length, OnOk, IfOk, IfErr, string_bytes};
+ghost use Rattle.std.specs.Str.{IsErrorLen, error_len, valid_up_to};
 ghost use Rattle.syn_grammar.specs.Tokens.{visible};
 ghost use Rattle.syn_grammar.specs.Rules.{file};
 ghost use Rattle.syn_reader.specs.Spelling.{Spells};
@@ -9,6 +10,7 @@ ghost use Rattle.syn_c.specs.Texts.{CanonicalOf, DerivedOf, ListOf, PrintOf, Ref
 
 use std::alloc::Global;
 use std::str;
+use std::str::Utf8Error;
 use syn_answers::answers::{canonical_by, derived_by};
 use syn_reader::reader::{read_tokens, token_text};
 use syn_texts::kind::Kind;
@@ -16,6 +18,27 @@ use syn_texts::listing::listed_text;
 use syn_tokens::error::{Error, Result};
 use syn_tokens::span::Span;
 use syn_tokens::stream::TokenStream;
+
+/// The place at which a text is not UTF-8: the bytes there that are no character, or all bytes that are left where a character is cut off.
+fn fault_place(text: &[u8], error: &Utf8Error) -> Span
+    requires short { valid_up_to error.now < length text.now }
+    requires len { IsErrorLen text.now (valid_up_to error.now) (error_len error.now) }
+    ensures start { result.start ≡ valid_up_to error.now }
+    ensures there { result.start < result.end }
+    ensures within { result.end ≤ length text.now }
+{
+    let start = error.valid_up_to();
+    match error.error_len() {
+        Some(length) => Span {
+            start,
+            end: start + length,
+        },
+        None => Span {
+            start,
+            end: text.len(),
+        },
+    }
+}
 
 /// The tokens of a text. One that is not UTF-8 is refused at the first bytes that are no character.
 fn read(alloc: Global, text: &[u8]) -> Result<TokenStream>
@@ -25,14 +48,7 @@ fn read(alloc: Global, text: &[u8]) -> Result<TokenStream>
 {
     match str::from_utf8(text) {
         Ok(text) => read_tokens(alloc, text),
-        Err(error) => {
-            let start = error.valid_up_to();
-            let end = match error.error_len() {
-                Some(length) => start + length,
-                None => text.len(),
-            };
-            Err(Error::new(Span { start, end }, "the text is not UTF-8"))
-        }
+        Err(error) => Err(Error::new(fault_place(text, &error), "the text is not UTF-8")),
     }
 }
 
