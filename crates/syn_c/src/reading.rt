@@ -29,9 +29,9 @@ fn fault_place(text: &[u8], error: &Utf8Error) -> Span
 {
     let start = error.valid_up_to();
     match error.error_len() {
-        Some(length) => Span {
+        Some(count) => Span {
             start,
-            end: start + length,
+            end: start + count,
         },
         None => Span {
             start,
