@@ -75,7 +75,7 @@ class Exports(unittest.TestCase):
                 library_of(LIBRARY.replace(old, new))
 
     def test_the_real_library_has_a_call_of_each_kind_of_answer(self):
-        library = library_of("\n".join((TOP / "crates/syn_c/src" / name).read_text() for name in ("lib.rt", "answer.rt")))
+        library = library_of("\n".join((TOP / "crates/syn_c/src" / name).read_text() for name in ("lib.rt", "report.rt")))
         names = ["syn_canonical", "syn_same_form", "syn_check", "syn_list"]
         self.assertEqual([it.name for it in library.functions], names)
         promised = {it.name for it in claimslib.functions_of("syn_c", TOP / "crates/syn_c/src/lib.rt") if it.public and "read" in it.clauses}

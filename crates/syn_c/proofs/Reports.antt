@@ -7,7 +7,7 @@ use Rattle.syn_texts.specs.declared.kind.Kind.{Kind}
 use Rattle.syn_c.specs.Answers.{IsReported, WritesNothing}
 use Rattle.syn_c.specs.Calls.{IsRefusedAs, IsRefusedBy}
 use Rattle.syn_c.specs.Texts.{RefusalOf}
-use Rattle.syn_c.specs.declared.answer.Answer.{Answer}
+use Rattle.syn_c.specs.declared.report.Answer.{Answer}
 
 -- THE STATUS: that of a refusal, or that of refused memory
 

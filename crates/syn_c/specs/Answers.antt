@@ -1,7 +1,7 @@
 -- HOW AN ANSWER IS PASSED TO THE CALLER.
 use Rattle.std.specs.Prelude.{◌≡◌, ℕ, List, [], ◌∷◌, ◌++◌, length, min, take, drop}
 use Rattle.syn_tokens.specs.Faults.{FaultValue}
-use Rattle.syn_c.specs.declared.answer.Answer.{Answer}
+use Rattle.syn_c.specs.declared.report.Answer.{Answer}
 
 -- a buffer to which as many bytes of a text were written as it has room for: after them it is as it was
 abbrev pub filled : List ℕ → List ℕ → List ℕ

@@ -4,7 +4,7 @@ use Rattle.syn_grammar.specs.Rules.{Rule, file}
 use Rattle.syn_tokens.specs.Faults.{FaultValue, syntax_error}
 use Rattle.syn_texts.specs.Kinds.{word_of, rule_of}
 use Rattle.syn_texts.specs.declared.kind.Kind.{Kind}
-use Rattle.syn_c.specs.declared.answer.Answer.{Answer}
+use Rattle.syn_c.specs.declared.report.Answer.{Answer}
 use Rattle.syn_c.specs.Answers.{Writes, WritesFirst}
 use Rattle.syn_c.specs.Texts as texts
 

@@ -6,12 +6,12 @@ ghost use Rattle.std.specs.Prelude.{◌≡◌, ◌≢◌, ◌≤◌, ◌⊎◌, 
 ghost use Rattle.syn_texts.specs.Kinds.{NoKind};
 ghost use Rattle.syn_c.specs.Calls.{IsCanonical, IsSame, IsOfKind, IsList, IsRefusedAs, IsRefusedAsFile};
 
-mod answer;
 mod reading;
+mod report;
 
-pub use crate::answer::Answer;
-use crate::answer::{answered, failed};
 use crate::reading::{canonical_text, check, list_text, printed};
+pub use crate::report::Answer;
+use crate::report::{answered, failed};
 use std::alloc::Global;
 use syn_texts::kind::Kind;
 
