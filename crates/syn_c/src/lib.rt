@@ -36,11 +36,11 @@ pub extern "C" fn syn_canonical(
     answer: &mut Answer,
 ) -> u32
     ensures known { result ≤ 3 }
-    ensures kind { (result ≡ 2) ↔ NoKind kind.now }
+    ensures unknown_kind { (result ≡ 2) ↔ NoKind kind.now }
     ensures read { result ≡ 0 → IsCanonical kind.now text.now buffer.old buffer.new answer.new }
     ensures refused { result ≡ 1 → IsRefusedAs kind.now text.now buffer.old buffer.new answer.new }
-    ensures buffer { 2 ≤ result → buffer.new ≡ buffer.old }
-    ensures answer { 2 ≤ result → answer.new ≡ answer.old }
+    ensures buffer_kept { 2 ≤ result → buffer.new ≡ buffer.old }
+    ensures answer_kept { 2 ≤ result → answer.new ≡ answer.old }
 {
     let Some(kind) = Kind::from_word(kind) else {
         return NO_KIND;
@@ -64,13 +64,13 @@ pub extern "C" fn syn_same_form(
     answer: &mut Answer,
 ) -> u32
     ensures known { result ≤ 4 }
-    ensures kind { (result ≡ 2) ↔ NoKind kind.now }
+    ensures unknown_kind { (result ≡ 2) ↔ NoKind kind.now }
     ensures read { result ≡ 0 → IsSame kind.now first.now second.now is_same.new buffer.old buffer.new answer.new }
     ensures refused { result ≡ 1 → IsRefusedAs kind.now first.now buffer.old buffer.new answer.new }
     ensures second_refused { result ≡ 4 → IsRefusedAs kind.now second.now buffer.old buffer.new answer.new }
-    ensures is_same { result ≢ 0 → is_same.new ≡ is_same.old }
-    ensures buffer { (result ≡ 2) ⊎ (result ≡ 3) → buffer.new ≡ buffer.old }
-    ensures answer { (result ≡ 2) ⊎ (result ≡ 3) → answer.new ≡ answer.old }
+    ensures flag_kept { result ≢ 0 → is_same.new ≡ is_same.old }
+    ensures buffer_kept { (result ≡ 2) ⊎ (result ≡ 3) → buffer.new ≡ buffer.old }
+    ensures answer_kept { (result ≡ 2) ⊎ (result ≡ 3) → answer.new ≡ answer.old }
 {
     let Some(kind) = Kind::from_word(kind) else {
         return NO_KIND;
@@ -97,11 +97,11 @@ pub extern "C" fn syn_check(
     answer: &mut Answer,
 ) -> u32
     ensures known { result ≤ 3 }
-    ensures kind { (result ≡ 2) ↔ NoKind kind.now }
+    ensures unknown_kind { (result ≡ 2) ↔ NoKind kind.now }
     ensures read { result ≡ 0 → IsOfKind kind.now text.now buffer.old buffer.new answer.new }
     ensures refused { result ≡ 1 → IsRefusedAs kind.now text.now buffer.old buffer.new answer.new }
-    ensures buffer { 2 ≤ result → buffer.new ≡ buffer.old }
-    ensures answer { 2 ≤ result → answer.new ≡ answer.old }
+    ensures buffer_kept { 2 ≤ result → buffer.new ≡ buffer.old }
+    ensures answer_kept { 2 ≤ result → answer.new ≡ answer.old }
 {
     let Some(kind) = Kind::from_word(kind) else {
         return NO_KIND;
@@ -123,8 +123,8 @@ pub extern "C" fn syn_list(
     ensures known { result ≢ 2 × result ≤ 3 }
     ensures read { result ≡ 0 → IsList text.now buffer.old buffer.new answer.new }
     ensures refused { result ≡ 1 → IsRefusedAsFile text.now buffer.old buffer.new answer.new }
-    ensures buffer { result ≡ 3 → buffer.new ≡ buffer.old }
-    ensures answer { result ≡ 3 → answer.new ≡ answer.old }
+    ensures buffer_kept { result ≡ 3 → buffer.new ≡ buffer.old }
+    ensures answer_kept { result ≡ 3 → answer.new ≡ answer.old }
 {
     match list_text(alloc, text) {
         Ok(list) => answered(list.as_str(), buffer, answer),
