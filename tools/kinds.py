@@ -20,7 +20,7 @@ and besides:
     crates/syn_item                     src/conversions**: `From`; the kinds of specs/Items.antt
     crates/syn                          src/kinds.rt: `Canonical`; the exports of items in src/lib.rt
     crates/syn_answers                  the kinds of items in src/list.rt, names.rt, guess.rt, specs/Listing.antt, proofs/Listing.antt
-    crates/syn_texts                    src/kind.rt, specs/Kinds.antt; the kinds of items in src/listing.rt, specs/Lines.antt
+    crates/syn_texts                    src/kind.rt, specs/Kinds.antt, proofs/Words.antt; the kinds of items in src/listing.rt, specs/Lines.antt
     crates/syn_test_support             src/outline/choices.rt: the outlines of items and members
     crates/check_rows/src               by_kind.rt, forms_by_kind.rt, conversions.rt: the types by their names
     crates/tree_answers/src/by_kind.rt  the program's kinds, by their trees and by their rules
@@ -47,7 +47,7 @@ from kindslib.impls import comparisons, copies, prints
 from kindslib.items import listing
 from kindslib.lists import comma_lists
 from kindslib.outlines import outlines
-from kindslib.program import answers_of_streams, canonical, comparisons_of_answers, kind_enum, kind_specs
+from kindslib.program import answers_of_streams, canonical, comparisons_of_answers, kind_enum, kind_proofs, kind_specs
 from kindslib.rows import row_kinds
 from kindslib.source import LOWEST, Fault, Source
 from kindslib.sweep import sweeps, variant_names
@@ -135,6 +135,7 @@ def outputs():
     files[CRATES / "syn/src/kinds.rt"] = canonical(trees, [kind[1:] for kind in KINDS] + OTHERS)
     files[CRATES / "syn_texts/src/kind.rt"] = kind_enum(KINDS)
     files[CRATES / "syn_texts/specs/Kinds.antt"] = kind_specs(KINDS)
+    files[CRATES / "syn_texts/proofs/Words.antt"] = kind_proofs(KINDS)
     files[CRATES / "tree_answers/src/by_kind.rt"] = comparisons_of_answers(trees, KINDS)
     files[CRATES / "cut_streams/src/by_kind.rt"] = answers_of_streams(trees, [kind[1:] for kind in KINDS] + OTHERS + INNER)
     kinds, others = [name for _, name, _ in KINDS], [name for name, _ in OTHERS]

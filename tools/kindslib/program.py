@@ -41,7 +41,7 @@ def constant(rule):
 def kind_enum(kinds):
     """The kinds, by their words and by their rules."""
     variants = "".join(f"    {camel(word)},\n" for word, _, _ in kinds)
-    words = "".join(f'            b"{word}" => Some(Kind::{camel(word)}),\n' for word, _, _ in kinds)
+    words = "".join(f'            "{word}" => Some(Kind::{camel(word)}),\n' for word, _, _ in kinds)
     rules = "".join(f"            Kind::{camel(word)} => Rule::{constant(rule)},\n" for word, _, rule in kinds)
     return f"""//! {WRITTEN}
 //!
@@ -50,6 +50,7 @@ ghost use Rattle.std.specs.Prelude.{{◌≡◌, MatchOption}};
 ghost use Rattle.syn_recognize.specs.Names as names;
 ghost use Rattle.syn_texts.specs.Kinds.{{word_of, NoKind, rule_of}};
 
+use std::str;
 use syn_recognize::Rule;
 
 /// What a text may spell.
@@ -59,11 +60,22 @@ pub enum Kind {{
 
 impl Kind {{
     /// The kind that the word is, if it is one.
-    pub fn from_word(word: &[u8]) -> Option<Kind>
+    pub fn from_word(word: &str) -> Option<Kind>
         ensures {{ MatchOption result (NoKind word.now) (λ kind. word.now ≡ word_of kind) }}
     {{
         match word {{
 {words}            _ => None,
+        }}
+    }}
+
+    /// The same of bytes, which may be no text.
+    #[tactic(auto, using(crate::proofs::Words::no_kind))]
+    pub fn from_bytes(word: &[u8]) -> Option<Kind>
+        ensures {{ MatchOption result (NoKind word.now) (λ kind. word.now ≡ word_of kind) }}
+    {{
+        match str::from_utf8(word) {{
+            Ok(word) => Kind::from_word(word),
+            Err(_) => None,
         }}
     }}
 
@@ -141,3 +153,20 @@ NoKind word = (kind : Kind) → word ≡ word_of kind → ⊥
 -- the rule of the grammar by which a kind is read
 abbrev pub rule_of : Kind → Rule
 {rules}"""
+
+
+def kind_proofs(kinds):
+    words = "".join(f'is_text {camel(word)} = (codes "{word}", (refl, refl))\n' for word, _, _ in kinds)
+    return f"""-- {WRITTEN}
+-- Each kind is written as a text.
+use Rattle.std.proofs.Common.{{◌≡◌, ℕ, List, IsUtf8, codes, refl, subst, sym}}
+use Rattle.syn_texts.specs.declared.kind.Kind.{{Kind}}
+use Rattle.syn_texts.specs.declared.kind.Kind.TheVariants.{{{", ".join(camel(word) for word, _, _ in kinds)}}}
+use Rattle.syn_texts.specs.Kinds.{{word_of, NoKind}}
+
+is_text : (kind : Kind) → IsUtf8 (word_of kind)
+{words}
+-- so what is no text is the word of no kind
+pub no_kind : (word : List ℕ) → ¬ IsUtf8 word → NoKind word
+no_kind word no kind e = no (subst IsUtf8 (sym e) (is_text kind))
+"""

@@ -42,7 +42,7 @@ pub extern "C" fn syn_canonical(
     ensures buffer_kept { 2 ≤ result → buffer.new ≡ buffer.old }
     ensures answer_kept { 2 ≤ result → answer.new ≡ answer.old }
 {
-    let Some(kind) = Kind::from_word(kind) else {
+    let Some(kind) = Kind::from_bytes(kind) else {
         return NO_KIND;
     };
     match canonical_text(alloc, kind, text) {
@@ -72,7 +72,7 @@ pub extern "C" fn syn_same_form(
     ensures buffer_kept { (result ≡ 2) ⊎ (result ≡ 3) → buffer.new ≡ buffer.old }
     ensures answer_kept { (result ≡ 2) ⊎ (result ≡ 3) → answer.new ≡ answer.old }
 {
-    let Some(kind) = Kind::from_word(kind) else {
+    let Some(kind) = Kind::from_bytes(kind) else {
         return NO_KIND;
     };
     match printed(alloc, kind, first) {
@@ -103,7 +103,7 @@ pub extern "C" fn syn_check(
     ensures buffer_kept { 2 ≤ result → buffer.new ≡ buffer.old }
     ensures answer_kept { 2 ≤ result → answer.new ≡ answer.old }
 {
-    let Some(kind) = Kind::from_word(kind) else {
+    let Some(kind) = Kind::from_bytes(kind) else {
         return NO_KIND;
     };
     match check(alloc, kind, text) {

@@ -26,7 +26,7 @@ impl Command {
                 _ => None,
             },
             [task, kind] => {
-                let kind = Kind::from_word(kind.as_bytes())?;
+                let kind = Kind::from_word(kind.as_str())?;
                 match task.as_str() {
                     "print" => Some(Command::Print(kind)),
                     "check" => Some(Command::Check(kind)),

@@ -5,6 +5,7 @@ ghost use Rattle.std.specs.Prelude.{◌≡◌, MatchOption};
 ghost use Rattle.syn_recognize.specs.Names as names;
 ghost use Rattle.syn_texts.specs.Kinds.{word_of, NoKind, rule_of};
 
+use std::str;
 use syn_recognize::Rule;
 
 /// What a text may spell.
@@ -48,45 +49,56 @@ pub enum Kind {
 
 impl Kind {
     /// The kind that the word is, if it is one.
-    pub fn from_word(word: &[u8]) -> Option<Kind>
+    pub fn from_word(word: &str) -> Option<Kind>
         ensures { MatchOption result (NoKind word.now) (λ kind. word.now ≡ word_of kind) }
     {
         match word {
-            b"file" => Some(Kind::File),
-            b"item" => Some(Kind::Item),
-            b"derive" => Some(Kind::Derive),
-            b"visibility" => Some(Kind::Visibility),
-            b"variant" => Some(Kind::Variant),
-            b"named-field" => Some(Kind::NamedField),
-            b"unnamed-field" => Some(Kind::UnnamedField),
-            b"fields-named" => Some(Kind::FieldsNamed),
-            b"fields-unnamed" => Some(Kind::FieldsUnnamed),
-            b"signature" => Some(Kind::Signature),
-            b"fn-arg" => Some(Kind::FnArg),
-            b"receiver" => Some(Kind::Receiver),
-            b"use-tree" => Some(Kind::UseTree),
-            b"trait-item" => Some(Kind::TraitItem),
-            b"impl-item" => Some(Kind::ImplItem),
-            b"foreign-item" => Some(Kind::ForeignItem),
-            b"item-const" => Some(Kind::ItemConst),
-            b"item-enum" => Some(Kind::ItemEnum),
-            b"item-extern-crate" => Some(Kind::ItemExternCrate),
-            b"item-fn" => Some(Kind::ItemFn),
-            b"item-foreign-mod" => Some(Kind::ItemForeignMod),
-            b"item-impl" => Some(Kind::ItemImpl),
-            b"item-macro" => Some(Kind::ItemMacro),
-            b"item-mod" => Some(Kind::ItemMod),
-            b"item-static" => Some(Kind::ItemStatic),
-            b"item-struct" => Some(Kind::ItemStruct),
-            b"item-trait" => Some(Kind::ItemTrait),
-            b"item-trait-alias" => Some(Kind::ItemTraitAlias),
-            b"item-type" => Some(Kind::ItemType),
-            b"item-union" => Some(Kind::ItemUnion),
-            b"item-use" => Some(Kind::ItemUse),
-            b"block" => Some(Kind::Block),
-            b"stmt" => Some(Kind::Stmt),
-            b"stmts" => Some(Kind::Stmts),
+            "file" => Some(Kind::File),
+            "item" => Some(Kind::Item),
+            "derive" => Some(Kind::Derive),
+            "visibility" => Some(Kind::Visibility),
+            "variant" => Some(Kind::Variant),
+            "named-field" => Some(Kind::NamedField),
+            "unnamed-field" => Some(Kind::UnnamedField),
+            "fields-named" => Some(Kind::FieldsNamed),
+            "fields-unnamed" => Some(Kind::FieldsUnnamed),
+            "signature" => Some(Kind::Signature),
+            "fn-arg" => Some(Kind::FnArg),
+            "receiver" => Some(Kind::Receiver),
+            "use-tree" => Some(Kind::UseTree),
+            "trait-item" => Some(Kind::TraitItem),
+            "impl-item" => Some(Kind::ImplItem),
+            "foreign-item" => Some(Kind::ForeignItem),
+            "item-const" => Some(Kind::ItemConst),
+            "item-enum" => Some(Kind::ItemEnum),
+            "item-extern-crate" => Some(Kind::ItemExternCrate),
+            "item-fn" => Some(Kind::ItemFn),
+            "item-foreign-mod" => Some(Kind::ItemForeignMod),
+            "item-impl" => Some(Kind::ItemImpl),
+            "item-macro" => Some(Kind::ItemMacro),
+            "item-mod" => Some(Kind::ItemMod),
+            "item-static" => Some(Kind::ItemStatic),
+            "item-struct" => Some(Kind::ItemStruct),
+            "item-trait" => Some(Kind::ItemTrait),
+            "item-trait-alias" => Some(Kind::ItemTraitAlias),
+            "item-type" => Some(Kind::ItemType),
+            "item-union" => Some(Kind::ItemUnion),
+            "item-use" => Some(Kind::ItemUse),
+            "block" => Some(Kind::Block),
+            "stmt" => Some(Kind::Stmt),
+            "stmts" => Some(Kind::Stmts),
             _ => None,
+        }
+    }
+
+    /// The same of bytes, which may be no text.
+    #[tactic(auto, using(crate::proofs::Words::no_kind))]
+    pub fn from_bytes(word: &[u8]) -> Option<Kind>
+        ensures { MatchOption result (NoKind word.now) (λ kind. word.now ≡ word_of kind) }
+    {
+        match str::from_utf8(word) {
+            Ok(word) => Kind::from_word(word),
+            Err(_) => None,
         }
     }
 
