@@ -15,8 +15,9 @@ Both begin with the texts that rows of `check_rows` and the conformance cases ac
 - spacings: every mark Joint, every mark Alone, and one mark with the other spacing;
 - invisible: some adjacent trees in an invisible group, or an empty one.
 
-The stream has to be accepted or refused, and printed, as the independent reader says; and the properties of each stream have to hold
-(see src/main.rt of the program). `texts` gives to the program
+The stream has to be accepted or refused as the independent reader says, with the same print and the same tree: every token with its
+span, every part, and each deferred tree as tokens and opened (cutlib/shapes.py). And the properties of each stream have to hold (see
+src/main.rt of the program). `texts` gives to the program
 
 - prefixes: the first bytes of each text, from none to all; it has to end as the independent reader says;
 - failing reads and writes: each text in pieces of a few bytes, with the first call failing, then the second, until a run has no failure.
@@ -24,7 +25,8 @@ The stream has to be accepted or refused, and printed, as the independent reader
 
 One difference is known and counted: `< >` after `impl`, which only one of the two prints. Some streams with an invisible group are
 accepted by one of the two alone (`read here`, `refused here`), since `parse2` finds by parsing at which groups it refuses. What both
-accept has to print alike, except if a group splits a mark or an item is stored as tokens (`other print`); in a sweep of many streams
+accept has to print alike, except if a group splits a mark or an item is stored as tokens (`other print`); and the trees have to be the
+same, except for groups that one of the two looks through (`other tree`). In a sweep of many streams
 at most 2 in 100 may differ so. The status is 0 if nothing else differs, 1 if something does, and 2 if nothing could be compared.
 
 The independent reader and the cases are beside the repository. Without the cases only rows are used.
@@ -37,11 +39,12 @@ import sys
 import tempfile
 from collections import Counter
 from concurrent.futures import ThreadPoolExecutor
+from os.path import commonprefix
 from pathlib import Path
 
 from compare_answers import CONFORMANCE, ORACLE, ROWS, STAGE, asked, packed, there, tried
 from cutlib.inputs import of_cases, of_rows, part_of
-from cutlib.reading import WORDS, Reading, is_but_for_empty_generics, splits_a_mark
+from cutlib.reading import WORDS, Reading, Shown, is_but_for_empty_generics, splits_a_mark
 from cutlib.streams import INVISIBLE, SWEEPS
 from cutlib.texts import beginnings, built_library, ended, failures, verdict
 
@@ -51,9 +54,11 @@ PROGRAM = TOP / "crates/syn_canon/out/syn_canon"
 # The number of differences that are shown.
 SHOWN = 30
 # Results that are no differences.
-AGREED = ("ok", "refused", "empty generics", "read here", "refused here", "other print")
+AGREED = ("ok", "refused", "empty generics", "read here", "refused here", "other print", "other tree")
 # Results of streams with an invisible group that are limited in sweeps of this many streams, and the limit.
-APART, MANY, AT_MOST = ("read here", "refused here", "other print"), 1000, 0.02
+APART, MANY, AT_MOST = ("read here", "refused here", "other print", "other tree"), 1000, 0.02
+# The number of words of an outline that are shown before and from the first difference.
+BEFORE, AFTER = 4, 8
 # The types that may be stored as tokens.
 KEPT = ("Item", "TraitItem", "ImplItem", "ForeignItem", "File")
 
@@ -96,7 +101,7 @@ def changed_streams(inputs, sweeps, reading):
     """The changed streams of the inputs: the sweep, the kind and the words. An input that the independent reader refuses is an error."""
     for each in inputs:
         words = reading.words(each.text)
-        if words is None or reading.print(each.kind, words) is None:
+        if words is None or reading.shown(each.kind, words) is None:
             raise RuntimeError(f"the other reading refuses {each.text!r} as {each.kind}")
         for sweep, change in sweeps.items():
             yield from ((sweep, each.kind, changed) for changed in change(words))
@@ -120,30 +125,50 @@ def answers_of(lines, program):
     return dict(zip(lines, answers))
 
 
-def judged(answer, print_of_other):
-    """Compares the result of the program with the print of the independent reader, or None."""
-    word, _, rest = answer.partition(" ")
-    if word == "refused" and print_of_other is None:
-        return "refused"
-    if word != "ok" or print_of_other is None:
-        return f"{answer if word != 'ok' else bytes.fromhex(rest).decode()!r} in place of {print_of_other!r}"
-    text = bytes.fromhex(rest).decode()
-    if text == print_of_other:
+def shown_by(answer):
+    """What the program shows of a stream that it accepts; None of any other."""
+    word, *texts = answer.split(" ")
+    return Shown(*(bytes.fromhex(text).decode() for text in texts)) if word == "ok" else None
+
+
+def judged_prints(print_here, print_there):
+    if print_here == print_there:
         return "ok"
-    return "empty generics" if is_but_for_empty_generics(text, print_of_other) else f"{text!r} in place of {print_of_other!r}"
+    return "empty generics" if is_but_for_empty_generics(print_here, print_there) else f"{print_here!r} in place of {print_there!r}"
 
 
-def judged_apart(answer, print_of_other, kind, words):
+def judged_trees(here, there):
+    """Compares two outlines: `ok`, or their words from just before the first difference."""
+    if here == there:
+        return "ok"
+    both = here.split(" "), there.split(" ")
+    start = max(len(commonprefix(both)) - BEFORE, 0)
+    first, second = (" ".join(words[start:start + BEFORE + AFTER]) for words in both)
+    return f"the tree has {first!r} in place of {second!r}"
+
+
+def judged(answer, there):
+    """Compares the result of the program with what the independent reader shows, or None if it refuses."""
+    here = shown_by(answer)
+    if here is None or there is None:
+        return "refused" if answer == "refused" and there is None else f"{here.print if here else answer!r} in place of {there and there.print!r}"
+    found = judged_prints(here.print, there.print)
+    trees = judged_trees(here.outline, there.outline)
+    return found if found not in AGREED or trees == "ok" else trees
+
+
+def judged_apart(answer, there, kind, words):
     """The same for a stream with an invisible group, which one of the two may accept and the other refuse."""
-    word = answer.partition(" ")[0]
-    if word == "ok" and print_of_other is None:
+    here, found = shown_by(answer), judged(answer, there)
+    if here and not there:
         return "read here"
-    if word == "refused" and print_of_other is not None:
+    if answer == "refused" and there:
         return "refused here"
-    found = judged(answer, print_of_other)
-    if word == "ok" and found not in AGREED and (kind in KEPT or splits_a_mark(words)):
-        return "other print"
-    return found
+    if not here or found in AGREED:
+        return found
+    if judged_prints(here.print, there.print) in AGREED:
+        return "other tree"
+    return "other print" if kind in KEPT or splits_a_mark(words) else found
 
 
 def streams(options, reading):
@@ -154,7 +179,7 @@ def streams(options, reading):
     for sweep, kind, words in changed:
         line = line_of(kind, words)
         if line not in known:
-            found = reading.print(kind, words)
+            found = reading.shown(kind, words)
             known[line] = judged_apart(answers[line], found, kind, words) if sweep in INVISIBLE else judged(answers[line], found)
         tally.add(sweep, line, known[line])
     tally.differences += [f"{sweep}: {count} of {total} apart" for sweep, count, total in too_many_apart(tally.counts)]

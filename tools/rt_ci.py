@@ -39,9 +39,9 @@ from gatelib.progress import Progress, Report
 
 TOP = Path(__file__).resolve().parent.parent
 STAMP = TOP / "tools/gatelib/stamp.sh"
-# The crates that only test or measure, except the programs whose answers `tools/compare_answers.py` and `tools/cuts.py` compare: a proved
-# program gives a thousand times as many answers as a trial build in the same time.
-BESIDE = ("syn_tokens_tests", "syn_reader_tests", "syn_answers_tests", "syn_item_tests", "syn_test_support", "syn_tests", "check_rows", "memory_sweep", "syn_bench")
+# The crates that only test or measure, except the programs whose results `tools/compare_answers.py` and `tools/cuts.py` compare, and the
+# crates that these use: a proved program gives a thousand times as many results as a trial build in the same time.
+BESIDE = ("syn_tokens_tests", "syn_reader_tests", "syn_answers_tests", "syn_item_tests", "syn_tests", "check_rows", "memory_sweep", "syn_bench")
 
 # The seconds of processor that the proof of a crate takes (estimated for `syn` and the examples). They order the tasks; for other crates
 # the number of lines is used. They need not be exact.

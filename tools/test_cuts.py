@@ -15,6 +15,7 @@ from unittest import mock
 import cuts
 from cutlib import inputs, reading, streams, texts
 from cutlib.inputs import Input
+from cutlib.reading import Shown
 
 # In place of the other reading: each kind is any tokens but `@` and `!`, and a text is words and marks with spaces between them.
 OTHER = """
@@ -27,7 +28,7 @@ class Lit:
 class Punct:
     def __init__(self, ch, joint=False, s=0, e=0): self.ch, self.joint, self.s, self.e = ch, joint, s, e
 class Group:
-    def __init__(self, delim, trees, os=0, oe=0): self.delim, self.trees = delim, trees
+    def __init__(self, delim, trees, os=0, oe=0): self.delim, self.trees, self.os, self.oe, self.cs, self.ce = delim, trees, os, oe, 0, 0
 class Cur:
     def __init__(self, trees, end): self.trees = trees
     def finish(self): pass
@@ -60,19 +61,25 @@ def read_tokens(text):
         else: level.append(Ident(word) if word[0].isalpha() else Punct(word[0], word[1:] == '+'))
     if around: raise SynErr()
     return level
-p_abi = p_lifetime_param = p_path = p_pat = p_return_type = p_bound = p_type = p_predicate = read
+p_abi = p_lifetime_param = p_path = p_pat = p_return_type = p_bound = p_type = p_predicate = p_variant = read
 KINDS = {word: (read, 1) for word in %r}
 API_KINDS = {'expr': (read, 2), 'unsafe-only': (read, 2)}
 def run(args, data, stage):
     try: return 0, token_text(read(Cur(read_tokens(data.decode()), 0))) + '\\n', '', True
     except SynErr: return 1, '', 'refused at 0: no such thing\\n', stage == 15
 """ % [*reading.WORDS.values()]
-# In place of cut_streams: it refuses what holds the mark `@` or `!`, and prints the words of the others.
+# In place of cut_streams: it refuses what holds the mark `@` or `!`, and prints the words of the others. Their outlines are these words with
+# their spans.
 STREAMS = """import sys
+def text(word):
+    return bytes.fromhex(word.split(':')[1]).decode() if ':' in word and word[0].isalpha() else word[-1]
+def shown(word, at):
+    shown = {'<': '<<', '>': '>>'}.get(word) or ('Int' if word.startswith('Int') else '') + text(word) + ('+' if word[0] == '+' else '')
+    return f'{shown}@{at}..{at + 1}'
 for line in sys.stdin.read().splitlines():
     kind, *words = line.split(' ')
-    print('refused' if '-@' in words or '-!' in words or '+!' in words else
-          'ok ' + ' '.join(bytes.fromhex(w.split(':')[1]).decode() if ':' in w and w[0].isalpha() else w[-1] for w in words).encode().hex())
+    texts = ' '.join(map(text, words)), ' '.join(shown(word, at) for at, word in enumerate(words))
+    print('refused' if '-@' in words or '-!' in words or '+!' in words else 'ok ' + ' '.join(each.encode().hex() for each in texts))
 """
 # In place of syn_canon, which answers so too.
 TEXTS = """import os, sys
@@ -185,10 +192,10 @@ class Other(Cuts):
         self.assertEqual(list(read.words_of(read.trees(found))), found)
         self.assertIsNone(read.words("( a"))
 
-    def test_prints_and_refusals(self):
+    def test_what_it_shows_and_refuses(self):
         read = reading.Reading(self.folder, 15)
-        self.assertEqual(read.print("Item", words("a ( b )")), "a ( b )")
-        self.assertIsNone(read.print("WherePredicate", words("a -@")))
+        self.assertEqual(read.shown("Item", words("a ( b )")), Shown("a ( b )", "a@0..1 (@1..2 b@2..3 )@3..4"))
+        self.assertIsNone(read.shown("WherePredicate", words("a -@")))
         self.assertEqual(read.run("Item", b"a @"), (1, "", "refused at 0: no such thing\n"))
         self.assertEqual(reading.Reading(self.folder, 14).run("Item", b"a @"), (1, "", None))
 
@@ -205,33 +212,47 @@ class Other(Cuts):
         self.assertFalse(reading.is_but_for_empty_generics("fn a < > ( )", "fn a ( )"))
 
 
+def ok(text, outline="A"):
+    """The result of the program for an accepted stream."""
+    return " ".join(["ok", text.encode().hex(), outline.encode().hex()])
+
+
 class Verdicts(Cuts):
     def test_of_streams(self):
         self.assertEqual(cuts.judged("refused", None), "refused")
-        self.assertEqual(cuts.judged("ok 61", "a"), "ok")
-        self.assertEqual(cuts.judged("ok " + b"impl < > A".hex(), "impl A"), "empty generics")
-        for answer, other in (("refused", "a"), ("ok 61", None), ("ok 61", "b"), ("broken the buffer has moved", None), ("memory", None)):
-            self.assertNotIn(cuts.judged(answer, other), cuts.AGREED)
+        self.assertEqual(cuts.judged(ok("a"), Shown("a", "A")), "ok")
+        self.assertEqual(cuts.judged(ok("", ""), Shown("", "")), "ok")
+        self.assertEqual(cuts.judged(ok("impl < > A"), Shown("impl A", "A")), "empty generics")
+        for answer, other in (("refused", "a"), (ok("a"), None), (ok("a"), "b"), ("broken the buffer has moved", None), ("memory", None)):
+            self.assertNotIn(cuts.judged(answer, other and Shown(other, "A")), cuts.AGREED)
+
+    def test_of_another_tree(self):
+        there = "Type Path a@0..1 Arguments <@1..2 Type Path b@2..3 >@3..4"
+        for print_, wrong in (("a", there.replace("b@2", "c@2")), ("impl < > A", there.replace("2..3", "2..4"))):
+            said = cuts.judged(ok(print_, wrong), Shown(print_.replace("< > ", ""), there))
+            self.assertRegex(said, r"^the tree has 'Arguments <@1..2 Type Path \S+ >@3..4' in place of 'Arguments <@1..2 Type Path b@2..3 >@3..4'$")
+        self.assertEqual(cuts.judged(ok("a", "A B"), Shown("a", "A")), "the tree has 'A B' in place of 'A'")
 
     def test_of_streams_with_an_invisible_group(self):
         def judged(answer, other, kind="Expr", text="a < b >"):
-            return cuts.judged_apart(answer, other, kind, words(text))
+            return cuts.judged_apart(answer, other and Shown(other, "A"), kind, words(text))
 
         self.assertEqual(judged("refused", None), "refused")
-        self.assertEqual(judged("ok 61", "a"), "ok")
+        self.assertEqual(judged(ok("a"), "a"), "ok")
         self.assertEqual(judged("refused", "a"), "refused here")
-        self.assertEqual(judged("ok 61", None), "read here")
-        self.assertEqual(judged("ok 61", "b", kind="Item"), "other print")
-        self.assertEqual(judged("ok 61", "b", text="a +& < -& b >"), "other print")
-        for answer, other in (("ok 61", "b"), ("broken the buffer has moved", None), ("memory", "a")):
+        self.assertEqual(judged(ok("a"), None), "read here")
+        self.assertEqual(judged(ok("b"), "a", kind="Item"), "other print")
+        self.assertEqual(judged(ok("b"), "a", text="a +& < -& b >"), "other print")
+        self.assertEqual(judged(ok("a", "B"), "a"), "other tree")
+        for answer, other in ((ok("a"), "b"), ("broken the buffer has moved", None), ("memory", "a")):
             self.assertNotIn(judged(answer, other), cuts.AGREED)
-        self.assertNotIn(judged("ok 61", "b", text="a -& < -& b >"), cuts.AGREED)
+        self.assertNotIn(judged(ok("a"), "b", text="a -& < -& b >"), cuts.AGREED)
 
     def test_of_too_many_apart(self):
         def apart(**counts):
             return list(cuts.too_many_apart({"invisible": Counter({how.replace("_", " "): count for how, count in counts.items()})}))
 
-        self.assertEqual(apart(ok=979, read_here=10, refused_here=10, other_print=1), [("invisible", 21, 1000)])
+        self.assertEqual(apart(ok=979, read_here=10, refused_here=5, other_print=5, other_tree=1), [("invisible", 21, 1000)])
         self.assertEqual(apart(ok=980, read_here=10, refused_here=10), [])
         self.assertEqual(apart(ok=1, read_here=998), [])
 
@@ -268,7 +289,7 @@ class Script(Cuts):
         crate = self.folder / "crates" / cuts.CRATE
         crate.mkdir(parents=True, exist_ok=True)
         (crate / "stdin").write_text("Item Ident:61\n")
-        (crate / "stdout").write_text("ok 61\n")
+        (crate / "stdout").write_text(ok("a", "a@0..1") + "\n")
         argv = ["cuts.py", what, "--bin", str(program), "--oracle", str(self.folder), "--conformance", str(self.folder / "none"), *more]
         said = io.StringIO()
         with (mock.patch.object(cuts, "ROWS", rows), mock.patch.object(cuts, "TOP", self.folder), mock.patch("sys.argv", argv),
@@ -291,6 +312,12 @@ class Script(Cuts):
         self.assertIn("@, Item Ident:61 ( Ident:62 -@ ): 'a ( b @ )' in place of None\n", said)
         self.assertTrue(said.endswith("@ 1: 1 differ; delimiters 2: 2 ok; spacings 1: 1 ok; invisible 15: 15 ok; 1 differ\n"), said)
         self.assertEqual(status, 1)
+
+    def test_a_tree_that_differs(self):
+        for right, wrong in (("{at + 1}", "{at + 2 if at == 2 else at + 1}"), ("'+' if", "'' if"), ("'Int' if", "'' if")):
+            status, said = self.status("streams", self.program("streams", STREAMS.replace(right, wrong)))
+            self.assertIn("the tree has ", said)
+            self.assertEqual(status, 1)
 
     def test_a_program_that_does_not_answer(self):
         for program in ("import sys\nsys.exit(3)\n", "print('ok 61')\n", "import sys\n" + STREAMS + "print('refused')\n"):

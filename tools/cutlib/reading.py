@@ -1,9 +1,11 @@
 """The oracle, another reading of the grammar beside the repository: its results for a stream or a text."""
 import re
+from dataclasses import dataclass
 
 from fuzz_reader import Oracle
 from kinds import KINDS
 
+from .outlines import outline
 from .streams import CLOSING, OPENING, is_mark
 
 # The program's word for each type that has one.
@@ -30,6 +32,18 @@ def of_kind(function, name):
     return read
 
 
+def with_visibility(other):
+    """The oracle's parser of variants, with their visibility, which the tree doesn't have, in the field `dropped`."""
+    plain = other.p_variant
+
+    def read(cursor):
+        begin = cursor.i
+        other.p_outer(cursor)
+        visibility, cursor.i = other.p_vis(cursor), begin
+        return plain(cursor).but(dropped=visibility)
+    return read
+
+
 def parsers(other):
     """The oracle's parser of each type, by the type's name."""
     found = {name: other.KINDS[word][0] for name, word in WORDS.items()}
@@ -47,6 +61,14 @@ def parsers(other):
     }
 
 
+@dataclass(frozen=True)
+class Shown:
+    """The print of a tree as text, and the tree's outline."""
+
+    print: str
+    outline: str
+
+
 class Reading:
     """The oracle, at a stage of the grammar."""
 
@@ -54,6 +76,7 @@ class Reading:
         self.other, self.stage = Oracle(folder).module, stage
         self.other.STAGE = stage
         self.parsers = parsers(self.other)
+        self.other.p_variant = with_visibility(self.other)
 
     def words(self, text):
         """The words of the tokens of the text; None if the lexer refuses it."""
@@ -96,18 +119,22 @@ class Reading:
         text = bytes.fromhex(digits).decode()
         return self.other.Ident(text, at, at + 1) if kind == "Ident" else self.other.Lit(kind, text, at, at + 1)
 
-    def print(self, kind, words):
-        """The print of the stream of these words as this kind; None if it is refused."""
-        other, trees = self.other, self.trees(words)
-        other.MEMO.clear()
-        other.KEEP.clear()
-        cursor = other.Cur(trees, other.end_of(trees))
+    def tree(self, kind, trees):
+        """The tree that these token trees are read as; an error if they are refused."""
+        self.other.MEMO.clear()
+        self.other.KEEP.clear()
+        cursor = self.other.Cur(trees, self.other.end_of(trees))
+        tree = self.parsers[kind](cursor)
+        cursor.finish()
+        return tree
+
+    def shown(self, kind, words):
+        """What the stream of these words is read as; None if it is refused."""
         try:
-            tree = self.parsers[kind](cursor)
-            cursor.finish()
-        except other.SynErr:
+            tree = self.tree(kind, self.trees(words))
+        except self.other.SynErr:
             return None
-        return other.token_text(other.flat(tree))
+        return Shown(self.other.token_text(self.other.flat(tree)), outline(kind, tree))
 
     def run(self, kind, text):
         """How the program ends that prints the bytes as this kind: its status, its output, and its error message, or None if only the form of

@@ -1,4 +1,4 @@
-//! What is answered about a stream.
+//! The result for a stream.
 
 use crate::failure::Failure;
 use std::alloc::Global;
@@ -8,12 +8,16 @@ use syn::token::{Delimiter, Token, TokenStream};
 use syn::{Result, ToTokens};
 use syn_answers::answers::canonical_by;
 use syn_recognize::Rule;
+use syn_test_support::outline::{Outlined, outline_opened};
 
-/// What is answered about a stream as one kind.
+/// The result for a stream as one kind.
 #[derive(Drop)]
 pub(crate) enum Answer {
-    /// It is read as a tree that prints this text.
-    Accepted(String),
+    /// It is read as a tree with this print and this outline.
+    Accepted {
+        print: String,
+        outline: String,
+    },
     Refused,
     /// Memory is refused to trees.
     Memory,
@@ -21,14 +25,19 @@ pub(crate) enum Answer {
     Broken(&'static str),
 }
 
-/// What is answered about the stream as a `T`, which this rule reads.
-pub(crate) fn answer_of<T: Parse + ToTokens + Drop>(
+/// The result for the stream as a `T`, which this rule reads.
+pub(crate) fn answer_of<T: Parse + ToTokens + Outlined + Drop>(
     rule: Rule,
     tokens: &TokenStream,
 ) -> std::result::Result<Answer, Failure> {
-    let broken = match printed::<T>(tokens) {
-        Ok(print) => match fault_of_print::<T>(rule, tokens, &print)? {
-            None => return Ok(Answer::Accepted(token_text(&print)?)),
+    let broken = match shown::<T>(tokens) {
+        Ok((print, outline)) => match fault_of_print::<T>(rule, tokens, &print)? {
+            None => {
+                return Ok(Answer::Accepted {
+                    print: token_text(&print)?,
+                    outline,
+                });
+            }
             Some(fault) => fault,
         },
         Err(error) if error.is_memory() || error.is_too_deep() => return Ok(Answer::Memory),
@@ -40,24 +49,39 @@ pub(crate) fn answer_of<T: Parse + ToTokens + Drop>(
     Ok(Answer::Broken(broken))
 }
 
-/// What the tree prints that the whole stream is read as.
-fn printed<T: Parse + ToTokens + Drop>(tokens: &TokenStream) -> Result<TokenStream> {
+/// The print and the outline of the tree that the whole stream is read as.
+fn shown<T: Parse + ToTokens + Outlined + Drop>(
+    tokens: &TokenStream,
+) -> Result<(TokenStream, String)> {
     let alloc = tokens.alloc();
     let tree: T = parse2(tokens.try_clone(alloc)?)?;
+    let print = printed(alloc, &tree)?;
+    Ok((print, outline_opened(alloc, &tree)?))
+}
+
+/// The print of the tree that the whole stream is read as.
+fn reprinted<T: Parse + ToTokens + Drop>(tokens: &TokenStream) -> Result<TokenStream> {
+    let alloc = tokens.alloc();
+    let tree: T = parse2(tokens.try_clone(alloc)?)?;
+    printed(alloc, &tree)
+}
+
+/// The print of the tree.
+fn printed<T: ToTokens>(alloc: Global, tree: &T) -> Result<TokenStream> {
     let mut print = TokenStream::new(alloc);
     tree.to_tokens(&mut print)?;
     Ok(print)
 }
 
-/// What doesn't hold of an accepted stream with this print: the print is read again, and prints itself; and without trees the stream is
-/// read and printed so too.
+/// What doesn't hold of an accepted stream with this print: the print is read again, with itself as its print; and without trees the stream
+/// is read too, with the same print.
 fn fault_of_print<T: Parse + ToTokens + Drop>(
     rule: Rule,
     tokens: &TokenStream,
     print: &TokenStream,
 ) -> std::result::Result<Option<&'static str>, Failure> {
     let alloc = tokens.alloc();
-    let Some(again) = read(printed::<T>(print))? else {
+    let Some(again) = read(reprinted::<T>(print))? else {
         return Ok(Some("its print is refused"));
     };
     if again != *print {
@@ -77,7 +101,7 @@ fn fault_of_print<T: Parse + ToTokens + Drop>(
     })
 }
 
-/// Whether an invisible group stands there, at any depth.
+/// Whether the stream has an invisible group, at any depth.
 fn has_invisible(tokens: &TokenStream) -> bool {
     for entry in tokens.entries() {
         if let Token::Open(open) = entry.token() {
@@ -89,7 +113,7 @@ fn has_invisible(tokens: &TokenStream) -> bool {
     false
 }
 
-/// What doesn't hold of a refused stream: the buffer stands where it stood, unless a tree stands at its front; and without trees it is
+/// What doesn't hold of a refused stream: the buffer is where it was, unless a tree is read from its front; and without trees it is
 /// refused too.
 fn fault_of_refusal<T: Parse + Drop>(
     rule: Rule,

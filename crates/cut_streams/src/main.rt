@@ -1,20 +1,21 @@
-//! Asks what is read of token streams, also of such as no text has: `tools/cuts.py` makes them.
+//! Parses token streams, also such as no text has: `tools/cuts.py` makes them.
 //!
-//! Each line of standard input is a kind of trees, as `Item`, and behind spaces a token stream. Of that each word is
+//! Each line of standard input is a kind of trees, as `Item`, and after spaces a token stream. Of that each word is
 //!
-//! - `(`, `)`, `[`, `]`, `{` or `}`: the sign of a group; `<` or `>`: that of an invisible one;
+//! - `(`, `)`, `[`, `]`, `{` or `}`: a delimiter of a group; `<` or `>`: that of an invisible one;
 //! - `+` or `-` and a character: a mark of that character, which is Joint or Alone;
 //! - `Ident`, or the kind of a literal as `Int`, then `:` and the hex digits of its text.
 //!
-//! A line that begins with `#` is a comment. The answer to each other line is a line on standard output:
+//! A line that begins with `#` is a comment. The result for each other line is a line on standard output:
 //!
-//! - `ok` and the hex digits of the text that the tree prints as which the stream is read by `parse2`;
+//! - `ok`, where `parse2` reads the stream, and the hex digits of two texts: the print of the tree, and its outline with all deferred trees
+//!   opened (`outline_opened` of `syn_test_support`). The span of a token is its number, from 0 to 1 for the first word;
 //! - `refused`;
 //! - `memory`, where memory is refused to trees, or they are nested too deep;
-//! - `broken` and words: what doesn't hold of this stream, but holds of each. The print of an accepted stream is read again, and prints
-//!   itself. Where a stream is refused, a buffer stands where it stood, unless a tree stands at its front and something is left behind
-//!   it. And by recognition (`syn_answers`) the same streams are read, with the same prints, but
-//!   for such in which `parse2` looks through an invisible group.
+//! - `broken` and words: what doesn't hold of this stream, but holds of each. The print of an accepted stream is read again, with itself as
+//!   its print. Where a stream is refused, a buffer is where it was, unless a tree is read from its front and something is left
+//!   after it. And by recognition (`syn_answers`) the same streams are read, with the same prints, except
+//!   those in which `parse2` looks through an invisible group.
 //!
 //! The status is 0; 1 where a line is no kind and stream, or where the input can't be read or the output written; 3 where memory is
 //! refused otherwise than to trees. In these two cases nothing is written.
@@ -34,7 +35,7 @@ use std::fmt::Write as _;
 use std::io::{self, BufWriter, Read, Write};
 use std::process::ExitCode;
 
-/// Writes what is answered to the lines of the input, and answers the exit status.
+/// Writes the results for the lines of the input, and returns the exit status.
 pub fn run<R: Read + Drop, W: Write + Drop>(alloc: Global, input: R, output: W) -> u8 {
     match report(alloc, input, output) {
         Ok(()) => 0,
@@ -42,7 +43,7 @@ pub fn run<R: Read + Drop, W: Write + Drop>(alloc: Global, input: R, output: W) 
     }
 }
 
-/// Writes the answers, once all are found.
+/// Writes the results, once all are known.
 fn report<R: Read + Drop, W: Write + Drop>(
     alloc: Global,
     input: R,
@@ -60,14 +61,15 @@ fn report<R: Read + Drop, W: Write + Drop>(
     Ok(())
 }
 
-/// Adds the line of the answer to this line.
+/// Adds the line of the result for this line.
 fn add_answer(alloc: Global, line: &str, said: &mut String) -> Result<(), Failure> {
     let (kind, words) = line.split_once(' ').unwrap_or((line, ""));
     let tokens = stream_of(alloc, words)?;
     match answer_as(kind, &tokens)? {
-        Answer::Accepted(text) => {
-            let digits = hex::encode(alloc, text.as_bytes())?;
-            writeln!(said, "ok {digits}")?;
+        Answer::Accepted { print, outline } => {
+            let print = hex::encode(alloc, print.as_bytes())?;
+            let outline = hex::encode(alloc, outline.as_bytes())?;
+            writeln!(said, "ok {print} {outline}")?;
         }
         Answer::Refused => said.push_str("refused\n")?,
         Answer::Memory => said.push_str("memory\n")?,

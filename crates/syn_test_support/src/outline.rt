@@ -5,6 +5,7 @@ mod generics;
 mod items;
 mod kinds;
 mod members;
+mod opened;
 mod ops;
 mod parts;
 mod pats;
@@ -12,11 +13,12 @@ mod sigs;
 mod types;
 mod uses;
 
+use crate::outline::opened::Closed;
 use std::alloc::{AllocError, Global};
 use syn::ToTokens;
 use syn::canon::{NamedField, UnnamedField};
 use syn::data::{Field, Fields, FieldsNamed, FieldsUnnamed, Variant};
-use syn::deferred::{Deferred, DeferredExpr};
+use syn::deferred::DeferredExpr;
 use syn::derive::{Data, DataEnum, DataStruct, DataUnion, DeriveInput};
 use syn::item::{ItemEnum, ItemStruct, ItemUnion};
 use syn::lower::{AttrStyle, Attribute, Lit, MacroDelimiter, Meta, MetaList, MetaNameValue};
@@ -32,32 +34,55 @@ pub trait Outlined {
     fn show(&self, out: &mut TreeText);
 }
 
-/// The text that shows a tree.
+/// The text that shows a tree, with the tokens of deferred trees.
 pub fn outline<T: Outlined>(alloc: Global, tree: &T) -> Result<String, AllocError> {
-    let mut out = TreeText {
-        alloc,
-        text: String::new(alloc),
-        is_refused: false,
-    };
+    let mut out = TreeText::new(alloc, false);
     tree.show(&mut out);
-    if out.is_refused {
-        Err(AllocError)
-    } else {
-        Ok(out.text)
-    }
+    out.finish()
 }
 
-/// A text that is being written. It keeps in mind whether memory was refused for any of it: so what adds to it has no answer, and no
-/// way out at each part.
+/// The same, and after it each deferred tree as it opens, after the word `Opened`: those that the tree holds, in their order, then those
+/// that these hold, and so on. Refused too where one is too deep to be opened.
+pub fn outline_opened<T: Outlined>(alloc: Global, tree: &T) -> Result<String, AllocError> {
+    let mut out = TreeText::new(alloc, true);
+    tree.show(&mut out);
+    out.open_all();
+    out.finish()
+}
+
+/// A text that is being written. It records whether any of it was refused, so what adds to it returns nothing.
 #[derive(Drop)]
 pub struct TreeText {
     alloc: Global,
     text: String,
     is_refused: bool,
+    /// Whether deferred trees are opened.
+    opens: bool,
+    /// Those that are shown, and still to be opened.
+    closed: Vec<Closed>,
 }
 
 impl TreeText {
-    /// Keeps in mind whether memory was refused.
+    fn new(alloc: Global, opens: bool) -> TreeText {
+        TreeText {
+            alloc,
+            text: String::new(alloc),
+            is_refused: false,
+            opens,
+            closed: Vec::new(alloc),
+        }
+    }
+
+    /// The whole text, unless some of it was refused.
+    fn finish(self) -> Result<String, AllocError> {
+        if self.is_refused {
+            Err(AllocError)
+        } else {
+            Ok(self.text)
+        }
+    }
+
+    /// Records whether memory was refused.
     fn note<E: Drop>(&mut self, added: Result<(), E>) {
         if added.is_err() {
             self.is_refused = true;
@@ -143,12 +168,6 @@ impl TreeText {
 impl Outlined for TokenStream {
     fn show(&self, out: &mut TreeText) {
         out.stream(self);
-    }
-}
-
-impl<const KIND: usize> Outlined for Deferred<KIND> {
-    fn show(&self, out: &mut TreeText) {
-        self.source().show(out);
     }
 }
 

@@ -4,6 +4,7 @@ use super::parts::{
     node, show_arguments, show_label, show_mut, show_path, show_semi, show_target, show_type,
 };
 use crate::outline::{Outlined, TreeText};
+use syn::canon::Stmts;
 use syn::expr::{Expr, ExprStruct, FieldValue};
 use syn::punctuated::Punctuated;
 use syn::stmt::{Block, Local, Stmt, StmtMacro};
@@ -33,6 +34,12 @@ impl Outlined for Stmt {
 impl Outlined for Local {
     fn show(&self, out: &mut TreeText) {
         show_local(self, DEPTH, out);
+    }
+}
+
+impl Outlined for Stmts {
+    fn show(&self, out: &mut TreeText) {
+        self.0.show(out);
     }
 }
 
@@ -423,7 +430,7 @@ fn show_stmt(stmt: &Stmt, depth: usize, out: &mut TreeText) {
         }
         Stmt::Item(item) => {
             out.word("Item");
-            item.source().show(out);
+            item.show(out);
         }
         Stmt::Macro(mac) => mac.show(out),
     }

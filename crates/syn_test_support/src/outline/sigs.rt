@@ -3,18 +3,8 @@
 use super::parts::{node, show_mark, show_mut, show_target, show_type, show_word};
 use crate::outline::{Outlined, TreeText};
 use syn::canon::{SafeOrUnsafe, UnsafeOnly};
-use syn::deferred::DeferredBlock;
 use syn::item::{FnArg, Receiver, ReceiverKind, Safety, Signature, Variadic};
 use syn::lower::Abi;
-
-/// The statements are shown as the tokens that they are kept as.
-impl Outlined for DeferredBlock {
-    fn show(&self, out: &mut TreeText) {
-        out.token("{", self.brace_token.opening);
-        self.stmts.show(out);
-        out.token("}", self.brace_token.closing);
-    }
-}
 
 /// The where clause is shown with the parameters in `< >`.
 impl Outlined for Signature {

@@ -116,7 +116,7 @@ fn show_group(ty: &Type, depth: usize, out: &mut TreeText) {
             out.token("[", array.bracket_token.opening);
             show_type(&array.elem, depth - 1, out);
             out.mark(";", &array.semi_token);
-            out.stream(array.len.source());
+            array.len.show(out);
             out.token("]", array.bracket_token.closing);
         }
         Type::Group(group) => {
@@ -266,7 +266,7 @@ fn show_argument(argument: &GenericArgument, depth: usize, out: &mut TreeText) {
         GenericArgument::Ty(ty) => show_type(ty, depth - 1, out),
         GenericArgument::Const(value) => {
             out.word("Const");
-            out.stream(value.source());
+            value.show(out);
         }
         GenericArgument::AssocType(association) => {
             out.word("AssocType");
