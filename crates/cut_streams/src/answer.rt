@@ -14,10 +14,7 @@ use syn_test_support::outline::{Outlined, outline_opened};
 #[derive(Drop)]
 pub(crate) enum Answer {
     /// It is read as a tree with this print and this outline.
-    Accepted {
-        print: String,
-        outline: String,
-    },
+    Accepted { print: String, outline: String },
     Refused,
     /// Memory is refused to trees.
     Memory,
@@ -138,9 +135,7 @@ fn fault_of_refusal<T: Parse + Drop>(
 fn read<T: Drop>(found: Result<T>) -> std::result::Result<Option<T>, Failure> {
     match found {
         Ok(value) => Ok(Some(value)),
-        Err(error) if error.is_memory() || error.is_too_deep() => {
-            Err(Failure::OutOfMemory)
-        }
+        Err(error) if error.is_memory() || error.is_too_deep() => { Err(Failure::OutOfMemory) }
         Err(_) => Ok(None),
     }
 }

@@ -9,9 +9,16 @@ use syn::item::{
     WhereClausePlacement,
 };
 
+/// What is never read is shown only in so far as it is there.
 impl Outlined for File {
     fn show(&self, out: &mut TreeText) {
         out.word("File");
+        if self.shebang.is_some() {
+            out.word("Shebang");
+        }
+        if self.frontmatter.is_some() {
+            out.word("Frontmatter");
+        }
         out.attributes(&self.attrs);
         for item in &self.items {
             item.show(out);

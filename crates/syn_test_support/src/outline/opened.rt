@@ -3,9 +3,7 @@
 use crate::outline::{Outlined, TreeText};
 use std::alloc::Global;
 use std::mem;
-use syn::deferred::{
-    DeferredBlock, DeferredConstant, DeferredExpr, DeferredItem, DeferredItems,
-};
+use syn::deferred::{DeferredBlock, DeferredConstant, DeferredExpr, DeferredItem, DeferredItems};
 use syn::item::{Item, Items};
 use syn::stmt::Block;
 use syn::{Expr, Result, TryClone};
