@@ -21,7 +21,7 @@ and besides:
     crates/syn                          src/kinds.rt: `Canonical`; the exports of items in src/lib.rt
     crates/syn_answers                  the kinds of items in src/list.rt, names.rt, guess.rt, specs/Listing.antt, proofs/Listing.antt
     crates/syn_canon                    src/kind.rt, src/by_kind.rt, specs/Kinds.antt; the kinds of items in src/listing.rt, specs/Lines.antt
-    crates/syn_test_support             src/outline/choices.rt: the outlines of items and members
+    crates/syn_test_support             src/outline/kinds.rt: the outlines of items and members
     crates/check_rows/src               by_kind.rt, forms_by_kind.rt, conversions.rt: the types by their names
     crates/tree_answers/src/by_kind.rt  the program's kinds, by their trees and by their rules
     crates/cut_streams/src/by_kind.rt   the same of all types with a rule
