@@ -1,6 +1,7 @@
 #!/usr/bin/env python3
 """Runs the program on texts with deeply nested forms, and fails if one does not end as expected: with status 0, or with 1 if the innermost
-token is wrong; or if four times the levels take much more than four times as long.
+token is wrong; or if four times the levels take much more than four times as long. Three forms take sixteen times as long, and get fewer
+levels: items that are stored verbatim, each in the type or the value of another.
 
 The text of a form is, with the given number of levels: the text before, the opening of each level, the middle, the closing of each level,
 and the text after. For each form a line is printed: its name, and the most seconds of processor that one of its runs took. If words are
@@ -20,6 +21,8 @@ from pathlib import Path
 TOP = Path(__file__).resolve().parent.parent
 # The usual stack of a main thread.
 STACK = 8 << 20
+# How many levels a form has at most whose time grows as their square, and how many times as long four times the levels may take.
+SQUARE_LEVELS, SQUARE_GROWTH = 1000, 24
 # With this after the middle every form is refused.
 WRONG = " => "
 
@@ -54,7 +57,8 @@ USE = Place("item", "use ", ";")
 
 @dataclass(frozen=True)
 class Form:
-    """A form that can be nested in itself. `raw`: its content is stored as tokens, so that no token is wrong there."""
+    """A form that can be nested in itself. `raw`: its content is stored as tokens, so that no token is wrong there. `square`: its time
+    grows as the square of the levels."""
 
     name: str
     place: Place
@@ -62,6 +66,7 @@ class Form:
     middle: str
     closing: str = ""
     raw: bool = False
+    square: bool = False
 
     def text(self, levels, middle=None):
         inside = self.middle if middle is None else middle
@@ -188,13 +193,13 @@ FORMS = [
     Form("functions behind attributes", ITEM, "#[a] fn f() { #![b] ", "", " }"),
     Form("functions in a file", FILE, "fn f() { ", "a", " }"),
     Form("types of parameters", ITEM, "fn f(a: [u8; { ", "1", " }]) {}"),
-    Form("types of functions that are kept", ITEM, "fn f(a: [u8; { ", "1", " }]);"),
+    Form("types of functions that are kept", ITEM, "fn f(a: [u8; { ", "1", " }]);", square=True),
     Form("nameless parameters", ITEM, "trait T { fn f(A<{ ", "1", " }>); }"),
     Form("values of constants", ITEM, "const A: u8 = { ", "1", " };"),
-    Form("values of constants that are kept", ITEM, "const A: u8 = { ", "1", " } where A: B;"),
+    Form("values of constants that are kept", ITEM, "const A: u8 = { ", "1", " } where A: B;", square=True),
     Form("constants with generics", ITEM, "const A<T>: u8 = { ", "1", " };"),
     Form("values of statics", ITEM, "static A: u8 = { ", "1", " };"),
-    Form("types of statics that are kept", ITEM, "static A: [u8; { ", "1", " }];"),
+    Form("types of statics that are kept", ITEM, "static A: [u8; { ", "1", " }];", square=True),
     Form("type aliases", ITEM, "type A = [u8; { ", "1", " }];"),
     Form("bounds of types that are kept", ITEM, "type A: B<{ ", "1", " }>;"),
     Form("traits", ITEM, "trait T { fn f() { ", "", " } }"),
@@ -255,16 +260,17 @@ def runs_of(form):
 def tried(form, options):
     """The most seconds that a run of the form took, and its errors."""
     most, faults = 0.0, []
+    most_levels, growth = (min(options.levels, SQUARE_LEVELS), SQUARE_GROWTH) if form.square else (options.levels, options.growth)
     for task, middle, wanted in runs_of(form):
         took = []
-        for levels in (options.levels // 4, options.levels):
+        for levels in (most_levels // 4, most_levels):
             status, seconds = run(options.bin, task, form.place.kind, form.text(levels, middle), options.seconds)
             took.append(seconds)
             if status != wanted:
                 faults.append(f"{task}, {levels} levels: status {status} instead of {wanted}" + ("" if middle is None else ", with a wrong token"))
         few, many = took
-        if many > options.growth * few + options.noise:
-            faults.append(f"{task}: {few:.2f} s for {options.levels // 4} levels, {many:.2f} s for {options.levels}")
+        if many > growth * few + options.noise:
+            faults.append(f"{task}: {few:.2f} s for {most_levels // 4} levels, {many:.2f} s for {most_levels}")
         most = max(most, many)
     return most, faults
 

@@ -707,20 +707,21 @@ class Writer:
         keywords = self.source.value('keywords')
         look = '{}, input: &ParseBuffer<\'_>) -> bool'
         peeked = lambda name: f'input.peek::<token::{name}>()'
-        copy = '{}, out: &mut Writer, input: &mut ParseBuffer<\'_>) -> Parsed<()>'
+        copy = '{}, out: &mut Writer, input: &mut ParseBuffer<\'_>) -> Stepped<()>'
         said = lambda name: f'"expected `{self.spelled[name]}`"'
         copied_word = lambda name: f'copy_text("{self.spelled[name]}", {said(name)}, out, input)'
         copied_mark = lambda name: f'copy_mark{len(self.spelled[name])}({", ".join(map(repr, self.spelled[name]))}, {said(name)}, out, input)'
         lacking = lambda kind, names: [
             f'/// The error message where this {kind.lower()} is expected at the end.', f"pub(crate) fn {kind.lower()}_at_end({kind.lower()}: {kind}) -> &'static str {{", f'    match {kind.lower()} {{',
             *[f'        {kind}::{name} => "unexpected end of input, expected `{self.spelled[name]}`",' for name in names], '    }', '}', '']
-        copies = 'Copies IsSyntax out.old ({}) result out.new input.new'
+        copies = 'Copies IsFault out.old ({}) result out.new input.new'
         return [
             f'//! {WRITTEN}', '//!', '//! Words and marks as data.', 'ghost use Rattle.std.specs.Prelude.{◌≡◌};',
             'ghost use Rattle.syn_grammar.specs.Tokens as grammar;', 'ghost use Rattle.syn_grammar.specs.Tokens.{one_of_texts};', 'ghost use Rattle.syn_grammar.specs.Words.{keywords};', 'ghost use Rattle.syn_grammar.specs.Grammar.{word};', 'ghost use Rattle.syn_grammar.specs.Take.{sees, take_token, take_mark};',
-            'ghost use Rattle.syn_parse.specs.Refusals.{IsSyntax};', 'ghost use Rattle.syn_recognize.specs.Copies.{Copies};',
-            'ghost use Rattle.syn_recognize.specs.May as may;', 'ghost use Rattle.syn_recognize.specs.May.{head_of};', 'ghost use Rattle.syn_recognize.specs.Names.{word_text, mark_text};', '', 'use crate::token::{copy_mark1, copy_mark2, copy_mark3, copy_text};', 'use crate::writer::Writer;',
-            'use syn_parse::buffer::ParseBuffer;', 'use syn_parse::read::refusal::Parsed;', 'use syn_tokens::token;', '',
+            'ghost use Rattle.syn_recognize.specs.Copies.{Copies};',
+            'ghost use Rattle.syn_recognize.specs.May as may;', 'ghost use Rattle.syn_recognize.specs.May.{head_of};', 'ghost use Rattle.syn_recognize.specs.Names.{word_text, mark_text};',
+            'ghost use Rattle.syn_recognize.specs.Stops.{IsFault};', '', 'use crate::stop::Stepped;', 'use crate::token::{copy_mark1, copy_mark2, copy_mark3, copy_text};', 'use crate::writer::Writer;',
+            'use syn_parse::buffer::ParseBuffer;', 'use syn_tokens::token;', '',
             '/// A word.', '#[derive(Clone, Copy)]', 'pub enum Word {', *[f'    {name},' for name in words], '}', '',
             '/// A mark.', '#[derive(Clone, Copy)]', 'pub enum Mark {', *[f'    {name},' for name in marks], '}', '',
             *function('Whether this word is next.', 'at_word(' + look.format('word: Word'), 'result ≡ sees (grammar.at_word (word_text word)) input.now', 'Word', words, peeked),

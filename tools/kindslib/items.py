@@ -71,7 +71,8 @@ def tries(name, words, variants):
     steps = "".join(f"    if try_kind(ItemKind::{variant}, input)? {{\n        return Ok(Some(ItemKind::{variant}));\n    }}\n" for variant in variants)
     return f"""/// {words}
 fn {name}(input: &mut ParseBuffer<'_>) -> Parsed<Option<ItemKind>>
-    ensures {{ KindsTried IsSyntax ({spec_list(variants)}) input.old result input.new }}
+    ensures tried {{ KindsTried IsSyntax ({spec_list(variants)}) input.old result input.new }}
+    ensures shallow {{ Never IsTooDeep result }}
 {{
 {steps}    Ok(None)
 }}
@@ -93,8 +94,11 @@ def name_of(place):
 def name_ahead(kinds):
     arms = "".join(f"        ItemKind::{variant} => {name_of(row.more.get('name'))},\n" for variant, row in kinds)
     return f"""/// The name of the item of this kind that begins here.
-pub(crate) fn name_ahead(kind: ItemKind, input: &ParseBuffer<'_>) -> Parsed<Option<Ident>>
-    ensures {{ OrMemory IsSyntax result (λ name. name_of name ≡ grammar.name_ahead (rule_of kind) input.now) }}
+pub(crate) fn name_ahead(
+    kind: ItemKind,
+    input: &ParseBuffer<'_>,
+) -> Result<Option<Ident>, AllocError>
+    ensures {{ IfOk result (λ name. name_of name ≡ grammar.name_ahead (rule_of kind) input.now) }}
 {{
     let trees = input.cursor();
     match kind {{
